@@ -1,0 +1,111 @@
+#!/bin/sh
+# run.sh [HALOOP]: times one job in three programs, side by side, and checks
+# that they write the same bytes. HALOOP is the path of the built haloop.
+
+set -eu
+
+here=$(cd "$(dirname "$0")" && pwd)
+haloop=${1:-$here/../../crates/haloop/out/haloop}
+programs="straightforward inline"
+if [ -f "$haloop" ] && [ -x "$haloop" ]; then
+    # Every run has a folder of its own, so the path must hold from any folder.
+    haloop=$(cd "$(dirname "$haloop")" && pwd)/$(basename "$haloop")
+    programs="$programs haloop"
+else
+    echo "run.sh: no program at $haloop, so haloop is skipped" >&2
+fi
+
+work=$(mktemp -d)
+trap 'rm -rf "$work"' EXIT
+trap 'exit 1' HUP INT TERM
+
+for source in generate straightforward inline; do
+    rustc -O --edition 2021 -o "$work/$source" "$here/$source.rs"
+done
+
+cat >"$work/program" <<'END'
+program bench;
+parts 1;
+rounds 1;
+stop exact;
+table t "table.tsv" (int, int);
+begin t;
+step { state by same; reduce least; }
+END
+echo "nodes 1" >"$work/schedule"
+
+# measure COMMAND...: runs it and prints its milliseconds and its peak in KiB.
+if command time -f %M -o "$work/peak" true 2>/dev/null &&
+    date +%N | grep -q '^[0-9]*$'; then
+    measure() {
+        # The clock of time itself only counts hundredths of a second.
+        begin=$(date +%s%N)
+        command time -f %M -o "$work/peak" "$@" >/dev/null || return
+        end=$(date +%s%N)
+        echo "$(((end - begin) / 1000000)) $(cat "$work/peak")"
+    }
+else
+    measure() {
+        python3 -c '
+import resource, subprocess, sys, time
+begin = time.monotonic()
+if subprocess.call(sys.argv[1:], stdout=subprocess.DEVNULL):
+    sys.exit(1)
+end = time.monotonic()
+peak = resource.getrusage(resource.RUSAGE_CHILDREN).ru_maxrss
+if sys.platform == "darwin":
+    peak //= 1024  # counted in bytes there
+print(int((end - begin) * 1000), peak)
+' "$@"
+    }
+fi
+
+# The rounds alternate, so that a slow spell of the machine hits every program.
+for records in 1000000 4000000; do
+    rm -f "$work/expected"
+    "$work/generate" "$records" 1 >"$work/table.tsv"
+    for _ in 1 2 3; do
+        for program in $programs; do
+            mkdir "$work/run"
+            cd "$work/run"
+            ln ../table.tsv ../program ../schedule .
+            case $program in
+                haloop) set -- "$haloop" run program schedule out ;;
+                *) set -- "../$program" table.tsv out ;;
+            esac
+            figures=$(measure "$@") || {
+                echo "run.sh: $program failed with $records records" >&2
+                exit 1
+            }
+            echo "$records $program $figures" >>"$work/figures"
+            if [ -f "$work/expected" ]; then
+                cmp "$work/expected" out/part-00000
+            else
+                mv out/part-00000 "$work/expected"
+            fi
+            cd "$work"
+            rm -rf run
+        done
+    done
+done
+
+# The best of the rounds, in the order in which they were run.
+awk '
+BEGIN {
+    print "| records | program | milliseconds | peak MB |"
+    print "|--------:|---------|-------------:|--------:|"
+}
+{
+    name = $1 " | " $2
+    if (!(name in time)) { order[++count] = name; time[name] = $3; peak[name] = $4 }
+    if ($3 < time[name]) time[name] = $3
+    if ($4 < peak[name]) peak[name] = $4
+}
+END {
+    for (i = 1; i <= count; i++) {
+        name = order[i]
+        printf "| %s | %d | %d |\n", name, time[name], peak[name] * 1024 / 1000000 + 0.5
+    }
+}' "$work/figures"
+echo
+echo "All part-00000 files are byte for byte the same."

@@ -1,0 +1,14 @@
+use Rattle.std.proofs.Common.{◌≡◌, ◌++◌, true, map, length}
+use Rattle.std.specs.List.{flat_map}
+use Rattle.plain_job.specs.Job.{job}
+use Rattle.group_reduce.proofs.reduce_part.Given as goal
+
+-- what is out and the job over what is left are the job
+abbrev pub invariant-keys : goal.invariant-keys
+invariant-keys g l =
+    let rows = g.S.SortedStream.rows in
+    let means = (g.F.Functions.meaning l.functions).reduce l.round l.step in
+    l.out ++ job means (λ _. true) (map rows l.streams) ≡ job means (λ _. true) (map rows l.initial.streams)
+
+abbrev pub decreases-keys : goal.decreases-keys
+decreases-keys g l = length (flat_map (λ rows. rows) (map g.S.SortedStream.rows l.streams))

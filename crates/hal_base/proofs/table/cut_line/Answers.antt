@@ -1,0 +1,14 @@
+use Rattle.std.proofs.Common.{◌+◌, ◌∷◌, ap, ◌∙◌, sym, take, add-one, arith, ◌<◌, length}
+use Rattle.hal_base.specs.Lines.{lines_in}
+use Rattle.hal_base.proofs.Cuts.{lines_first, lines_none, to_end}
+use Rattle.std.proofs.lemmas.Bool.{eqb-false}
+use Rattle.hal_base.proofs.table.cut_line.Goals as goal
+
+pub returns-in-Some-clause-some : goal.returns-in-Some-clause-some
+returns-in-Some-clause-some c = rw (to_end, add-one) (lines_first c.args.bytes.now c.in-Some.at c.in-Some.ensures.0.high c.in-Some.ensures.0.before c.in-Some.ensures.1)
+
+pub returns-in-None-clause-some : goal.returns-in-None-clause-some
+returns-in-None-clause-some c =
+    let n = eqb-false (length c.args.bytes.now) 0 (sym c.if-is_empty.ensures) in
+    let l : 0 < length c.args.bytes.now = omega arith in
+    lines_none c.args.bytes.now l c.in-None.ensures

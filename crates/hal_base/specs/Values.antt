@@ -1,0 +1,31 @@
+-- Values, records and their kinds.
+use Rattle.std.specs.Prelude.{◌≡◌, List, map, FitsSigned}
+use Rattle.std.specs.Int.{w64}
+use Rattle.std.specs.List.{AllByRecursion}
+use Rattle.hal_base.specs.declared.value.Kind.{Kind}
+use Rattle.hal_base.specs.declared.value.Kind.TheVariants as kind
+use Rattle.hal_base.specs.declared.value.Value.{Value}
+use Rattle.hal_base.specs.declared.value.Value.TheVariants.{Int, Text}
+use Rattle.hal_base.specs.declared.record.Record.{Record}
+use Rattle.hal_base.specs.declared.fields.Schema.{Schema}
+use Rattle.hal_base.specs.Text.{IsText}
+
+abbrev pub kind_of : Value → Kind
+kind_of (Int _) = kind.Int
+kind_of (Text _) = kind.Text
+
+-- a number of 64 bits with sign, or a text
+abbrev pub IsValue : Value → Type 0
+IsValue (Int n) = FitsSigned w64 n
+IsValue (Text bytes) = IsText bytes
+
+-- the record has the kinds of the schema, in order
+pub record FitsSchema (schema : Schema) (row : Record) : Type 0 where
+  pub key : kind_of row.key ≡ schema.key
+  pub fields : map kind_of row.fields ≡ schema.fields
+
+-- a record of values that fits the schema
+pub record IsRecordOf (schema : Schema) (row : Record) : Type 0 where
+  pub key : IsValue row.key
+  pub fields : AllByRecursion IsValue row.fields
+  pub fits : FitsSchema schema row

@@ -1,0 +1,39 @@
+ghost use Rattle.std.specs.Prelude.{◌≡◌};
+
+use std::alloc::AllocError;
+use thiserror::Error;
+
+/// A failure of a device, with a code that the implementation chooses.
+#[derive(Clone, Copy, Debug, Error)]
+#[error("device {code}")]
+pub struct DeviceFault {
+    pub code: u32,
+}
+
+/// Why a call on files failed.
+#[derive(Clone, Copy, Debug, Error)]
+pub enum FileFault {
+    #[error("{0}")]
+    Device(DeviceFault),
+    #[error("memory")]
+    Memory,
+}
+
+impl From<AllocError> for FileFault {
+    ghost use Rattle.hal_outside.specs.declared.faults.FileFault.TheVariants as file;
+
+    ghost from_gives = { λ _ fault. fault ≡ file.Memory };
+
+    fn from(_error: AllocError) -> FileFault {
+        FileFault::Memory
+    }
+}
+
+/// Why a write to a sink failed.
+#[derive(Clone, Copy, Debug, Error)]
+pub enum SinkFault {
+    #[error("{0}")]
+    Device(DeviceFault),
+    #[error("memory")]
+    Memory,
+}

@@ -1,0 +1,109 @@
+ghost use Rattle.std.specs.Prelude.{◌≡◌, ◌↔◌, ◌≤◌, None, IfOk, vec_len};
+ghost use Rattle.std.specs.IoError.{error_kind};
+ghost use Rattle.hal_outside.specs.Told.{Rose};
+ghost use Rattle.hal_outside.specs.Faults.{AtFileDevice};
+
+use crate::device::device_fault;
+use hal_outside::{FileFault, Files};
+use std::alloc::Global;
+use std::fs::OpenFile;
+use std::io::{ErrorKind, Read};
+use std::path::Path;
+use std::{fs, io, rt};
+
+/// The most bytes that are read of a file, 64 GiB.
+const MOST_BYTES: u64 = 68_719_476_736;
+
+/// The files of the current folder, by their paths from it. It counts the calls that a device failed and
+/// the reads that found no file; both counts stop at their last value.
+#[derive(Drop)]
+pub struct FolderFiles<R> {
+    runtime: R,
+    faults: u64,
+    absents: u64,
+}
+
+impl<R> FolderFiles<R> {
+    /// Both counts at 0.
+    pub fn new(runtime: R) -> FolderFiles<R>
+        ensures faults { result.faults ≡ 0 }
+        ensures absents { result.absents ≡ 0 }
+    {
+        FolderFiles {
+            runtime,
+            faults: 0,
+            absents: 0,
+        }
+    }
+
+    /// What a failed call answers. It counts a device's failure, and does not count want of memory.
+    fn fault(&mut self, error: &io::Error) -> FileFault
+        ensures faults_stay { self.old.faults ≤ self.new.faults }
+        ensures absents_kept { self.new.absents ≡ self.old.absents }
+        ensures device { AtFileDevice result (Rose self.old.faults self.new.faults) }
+        ensures memory { (result ≡ FileFault.Memory) ↔ (error_kind error.now ≡ ErrorKind.OutOfMemory) }
+    {
+        if error.kind() == ErrorKind::OutOfMemory {
+            return FileFault::Memory;
+        }
+        self.faults = self.faults.saturating_add(1);
+        FileFault::Device(device_fault(error))
+    }
+}
+
+impl<R: rt::Files> Files for FolderFiles<R> {
+    ghost faults = { λ f. f.faults };
+
+    ghost absents = { λ f. f.absents };
+
+    ghost told = { λ _. None };
+
+    fn read(&mut self, alloc: Global, name: &str) -> Result<Option<Vec<u8>>, FileFault> {
+        match fs::open(&self.runtime, name) {
+            Ok(file) => match read_whole(alloc, file) {
+                Ok(bytes) => Ok(Some(bytes)),
+                Err(error) => Err(self.fault(&error)),
+            },
+            Err(error) if error.kind() == ErrorKind::NotFound => {
+                self.absents = self.absents.saturating_add(1);
+                Ok(None)
+            }
+            Err(error) => Err(self.fault(&error)),
+        }
+    }
+
+    fn write(&mut self, name: &str, bytes: &[u8]) -> Result<(), FileFault> {
+        match write_whole(&self.runtime, name, bytes) {
+            Ok(()) => Ok(()),
+            Err(error) => Err(self.fault(&error)),
+        }
+    }
+}
+
+/// All bytes of an open file. It fails where they are more than `MOST_BYTES`, where the system fails a
+/// call, as at a folder, or for want of memory.
+fn read_whole<F: Read + OpenFile + Drop>(alloc: Global, file: F) -> io::Result<Vec<u8>>
+    ensures { IfOk result (λ bytes. vec_len bytes ≤ MOST_BYTES) }
+{
+    let length = file.metadata()?.len();
+    if length > MOST_BYTES {
+        return Err(io::Error::from(ErrorKind::FileTooLarge));
+    }
+    // The byte past its length lets the last read find the end of the file without growing.
+    let mut bytes = Vec::with_capacity(alloc, length as usize + 1)?;
+    // A pipe and some devices tell no length, and need not end.
+    file.take(MOST_BYTES + 1).read_to_end(&mut bytes)?;
+    if bytes.len() as u64 > MOST_BYTES {
+        return Err(io::Error::from(ErrorKind::FileTooLarge));
+    }
+    Ok(bytes)
+}
+
+/// Makes the folders of a file that are missing, and then the file, with these bytes. It fails where
+/// the system refuses a folder or the file, or takes none of the bytes that are left.
+fn write_whole<R: rt::Files>(runtime: &R, name: &str, bytes: &[u8]) -> io::Result<()> {
+    if let Some(folder) = Path::new(name).parent() {
+        fs::create_dir_all(runtime, folder)?;
+    }
+    fs::write(runtime, name, bytes)
+}

@@ -1,0 +1,32 @@
+//! The program: hands the words of its command, the files of the current folder and the standard output
+//! to the run, and ends with the run's status.
+#![tactic(auto)]
+
+mod device;
+mod folder_files;
+mod std_sink;
+
+use folder_files::FolderFiles;
+use haloop_run::haloop_top;
+use std::process::ExitCode;
+use std::{env, io};
+use std_sink::StdSink;
+
+/// The status where the system does not give the words of the command.
+const NO_WORDS: u8 = 8;
+
+fn main(rt: HostRuntime) -> ExitCode {
+    let Ok(words) = words_after_name(&rt) else {
+        return ExitCode::from(NO_WORDS);
+    };
+    let mut files = FolderFiles::new(&rt);
+    let mut out = StdSink::new(&rt);
+    ExitCode::from(haloop_top(rt.alloc(), words.as_slice(), &mut files, &mut out))
+}
+
+/// The words after the program's name. It fails where one is not valid text, or for want of memory.
+fn words_after_name(rt: &HostRuntime) -> io::Result<Vec<String>> {
+    let mut words = env::args(rt)?;
+    let _program = words.next();
+    Ok(words.collect(rt.alloc())?)
+}

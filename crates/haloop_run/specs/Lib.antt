@@ -1,0 +1,9 @@
+pub mod Form
+pub mod FormLaws
+pub mod FormReading
+pub mod Inputs
+pub mod Outputs
+pub mod Statuses
+pub mod Steps
+pub mod Texts
+pub mod Words

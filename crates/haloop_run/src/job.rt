@@ -1,0 +1,37 @@
+ghost use Rattle.std.specs.Prelude.{◌≡◌, true, [], ◌∷◌, IfOk};
+ghost use Rattle.plain_job.specs.Job.{job, stream};
+ghost use Rattle.haloop_run.specs.Outputs.{IsPartText, form_meaning};
+
+use crate::listed::Listed;
+use crate::predefined::Predefined;
+use group_reduce::reduce_part;
+use hal_base::{Functions, Memory, Records, lines};
+use std::alloc::Global;
+
+/// The text of the one part of the chain over the form's table.
+pub(crate) fn part_text(alloc: Global, rows: Records) -> Result<Vec<u8>, Memory>
+    ensures { IfOk result (λ text. IsPartText rows text.items) }
+{
+    let out = one_job(alloc, rows)?;
+    lines(alloc, &out)
+}
+
+fn one_job(alloc: Global, rows: Records) -> Result<Records, Memory>
+    ensures { IfOk result (λ out. out ≡ job (form_meaning.reduce 1 1) (λ _. true) (stream (form_meaning.map 1 1 1) rows ∷ [])) }
+{
+    let functions = Predefined {};
+    let mapped = mapped(alloc, &functions, rows)?;
+    let mut streams = [Listed::new(mapped)];
+    reduce_part(alloc, &functions, 1, 1, &mut streams)
+}
+
+/// What the map of the only source emits for the rows, one after another.
+fn mapped<F: Functions>(alloc: Global, functions: &F, rows: Records) -> Result<Records, Memory>
+    ensures { IfOk result (λ out. out ≡ stream ((F.meaning functions.now).map 1 1 1) rows) }
+{
+    let mut out = Records::with_capacity(alloc, rows.len())?;
+    'rows: for row in rows.as_slice() {
+        functions.map(alloc, 1, 1, 1, row, &mut out)?;
+    }
+    Ok(out)
+}

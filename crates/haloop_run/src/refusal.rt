@@ -1,0 +1,27 @@
+use hal_base::{Items, Memory};
+
+/// Why a command did not do what it was asked.
+#[derive(Drop)]
+pub(crate) enum Refusal {
+    /// The words are those of no command.
+    Usage,
+    /// The file of this name is not there.
+    Absent(Items<u8>),
+    /// The program, the schedule or the table is of a form that is not built yet.
+    NotBuilt,
+    /// A device failed.
+    Device,
+    /// Want of memory.
+    Memory,
+}
+
+impl From<Memory> for Refusal {
+    ghost use Rattle.std.specs.Prelude.{◌≡◌};
+    ghost use Rattle.haloop_run.specs.declared.refusal.Refusal.TheVariants as refusal;
+
+    ghost from_gives = { λ _ it. it ≡ refusal.Memory };
+
+    fn from(_error: Memory) -> Refusal {
+        Refusal::Memory
+    }
+}

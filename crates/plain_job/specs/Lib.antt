@@ -1,0 +1,5 @@
+pub mod Chain
+pub mod Ends
+pub mod Job
+pub mod Laws
+pub mod Predefined

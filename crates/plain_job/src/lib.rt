@@ -1,0 +1,14 @@
+//! What a job means, over whole lists, and laws of it.
+#![tactic(auto)]
+
+ghost use Rattle.plain_job.specs.Laws.{PartsMakeTheJob, SortingKeepsTheJob};
+
+/// The job of a part is the job of the streams' records of that part.
+pub fn parts_make_the_job()
+    ensures { PartsMakeTheJob }
+{}
+
+/// A job reads each stream as if it were sorted.
+pub fn sorting_keeps_the_job()
+    ensures { SortingKeepsTheJob }
+{}
