@@ -1,11 +1,11 @@
 -- The least key of sorted streams, and the job without it.
-use Rattle.std.proofs.Common.{◌≡◌, ℕ, ◌+◌, ◌<◌, ◌≤◌, Bool, true, false, cond, ◌||◌, List, [], ◌∷◌, ◌++◌, Option, None, Some, refl, sym, ap, ◌∙◌, subst, map, length, arith, length-append}
+use Rattle.std.proofs.Common.{◌≡◌, ◌<◌, ◌≤◌, Bool, true, false, cond, ◌||◌, List, [], ◌∷◌, ◌++◌, Option, None, Some, refl, sym, ap, ◌∙◌, map, length, arith, length-append}
 use Rattle.std.specs.declared.cmp.Ordering.{Ordering}
 use Rattle.std.specs.declared.cmp.Ordering.TheVariants.{Less, Equal, Greater}
 use Rattle.std.specs.Ordering.{is_eq, is_gt, is_le, ordering_reverse, ordering_then, eq_by_cmp}
 use Rattle.std.specs.Cmp.Lexicographic.{slice_cmp}
 use Rattle.std.specs.List.{AllByRecursion, list_any, filter, flat_map}
-use Rattle.std.proofs.lemmas.Cmp.{tied_itself, tied_back, alike_right, upto}
+use Rattle.std.proofs.lemmas.Cmp.{tied_itself, alike_right, upto}
 use Rattle.std.proofs.lemmas.List.Folds.{list_any-append}
 use Rattle.hal_base.specs.declared.value.Value.{Value}
 use Rattle.hal_base.specs.declared.record.Record.{Record}
@@ -15,8 +15,8 @@ use Rattle.hal_base.specs.Sorted.{Ascending}
 use Rattle.hal_base.specs.Sorted.{sorted, distinct}
 use Rattle.plain_job.specs.Job.{has_key, key_of, fields_of, group, keys, job}
 use Rattle.plain_job.proofs.Keys.{all_keys, flat_alike, all_kept}
-use Rattle.group_reduce.specs.Front.{front, rest, lesser, least_key_of}
-use Rattle.hal_base.proofs.Strict.{or_split, sorted_same, Strict, all_distinct, strict_distinct, any_distinct, same_strict}
+use Rattle.group_reduce.specs.Front.{front, rest, least_key_of}
+use Rattle.hal_base.proofs.Strict.{or_split, sorted_same, all_distinct, strict_distinct, any_distinct, same_strict}
 
 -- no key of the rows is below k
 abbrev pub From : Value → List Record → Type 0
@@ -45,7 +45,7 @@ itself k = rw (tied_itself value_cmp_total k)
 some_same : (k : Value) (best : Option Value) → best ≡ Some k → NotBelow k best
 some_same k best e = rw e (itself k)
 
--- of b and the key of row, the lesser is not below k: so neither is
+-- of b and the key of row, the lesser_key is not below k: so neither is
 both : (k b r : Value) → is_gt (value_cmp k (cond (is_le (value_cmp b r)) b r)) ≡ false → (is_gt (value_cmp k b) ≡ false) × (is_gt (value_cmp k r) ≡ false)
 both k b r =
     elim (value_cmp b r) as (λ o. value_cmp b r ≡ o → is_gt (value_cmp k (cond (is_le o) b r)) ≡ false → (is_gt (value_cmp k b) ≡ false) × (is_gt (value_cmp k r) ≡ false)) [

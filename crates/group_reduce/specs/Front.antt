@@ -1,3 +1,4 @@
+-- The records of one key at the front of a stream, and the least key of streams, for the contracts of the steps.
 use Rattle.std.specs.Prelude.{Bool, false, cond, List, [], ◌∷◌, Option, None, Some}
 use Rattle.std.specs.Ordering.{is_le}
 use Rattle.hal_base.specs.declared.value.Value.{Value}
@@ -20,12 +21,12 @@ rest k [] = []
 rest k (row ∷ rows) = cond (has_key k row) (rest k rows) (row ∷ rows)
 
 -- the lesser of two keys, of which the second is the first record's
-abbrev pub lesser : Option Value → List Record → Option Value
-lesser best [] = best
-lesser None (row ∷ rows) = Some row.key
-lesser (Some k) (row ∷ rows) = Some (cond (is_le (value_cmp k row.key)) k row.key)
+abbrev pub lesser_key : Option Value → List Record → Option Value
+lesser_key best [] = best
+lesser_key None (row ∷ rows) = Some row.key
+lesser_key (Some k) (row ∷ rows) = Some (cond (is_le (value_cmp k row.key)) k row.key)
 
 -- the least of a key and the first keys of the streams
 abbrev pub least_key_of : Option Value → List (List Record) → Option Value
 least_key_of best [] = best
-least_key_of best (stream ∷ streams) = least_key_of (lesser best stream) streams
+least_key_of best (stream ∷ streams) = least_key_of (lesser_key best stream) streams

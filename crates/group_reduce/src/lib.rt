@@ -14,7 +14,9 @@ use hal_base::{
 };
 use std::alloc::Global;
 
-/// What reduce emits for the keys of the streams, in ascending order of the keys.
+/// What the reduce of this step emits for each key that stands in a stream, in ascending order of the
+/// keys, with one group for each stream. It takes the records off the streams, one key at a time.
+/// docs/SEMANTICS.md, "The plain job".
 pub fn reduce_part<F: Functions, S: SortedStream>(
     alloc: Global,
     functions: &F,

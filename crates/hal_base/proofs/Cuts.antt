@@ -1,7 +1,7 @@
 -- Bytes cut at the first byte of one kind.
-use Rattle.std.proofs.Common.{◌≡◌, ℕ, zero, suc, ◌+◌, ◌<◌, ◌≤◌, Bool, true, false, cond, nat_eq, List, [], ◌∷◌, ◌++◌, refl, sym, ap, ◌∙◌, length, take, drop, get_or, arith, length-drop, ◌-◌, add-one}
+use Rattle.std.proofs.Common.{◌≡◌, ℕ, zero, suc, ◌<◌, ◌≤◌, Bool, true, false, nat_eq, List, [], ◌∷◌, ◌++◌, refl, length, take, drop, get_or, arith, length-drop, ◌-◌}
 use Rattle.std.proofs.lemmas.List.{take_all}
-use Rattle.std.specs.List.{AllByRecursion, onto_first, slice_split}
+use Rattle.std.specs.List.{AllByRecursion, slice_split}
 use Rattle.hal_base.specs.Lines.{lines_in}
 
 pub is_false : (b : Bool) → (b ≡ true → ⊥) → b ≡ false
@@ -12,10 +12,10 @@ is_false false n = refl
 abbrev pub NoneBefore : ℕ → List ℕ → ℕ → Type 0
 NoneBefore c bytes at = (k : ℕ) → 0 ≤ k → k < at → nat_eq (get_or bytes k 0) c ≡ true → ⊥
 
-later : (c b : ℕ) (bs : List ℕ) (at : ℕ) → NoneBefore c (b ∷ bs) (suc at) → NoneBefore c bs at
+pub later : (c b : ℕ) (bs : List ℕ) (at : ℕ) → NoneBefore c (b ∷ bs) (suc at) → NoneBefore c bs at
 later c b bs at n k l m = n (suc k) (omega arith) (omega arith)
 
-first : (c b : ℕ) (bs : List ℕ) (at : ℕ) → NoneBefore c (b ∷ bs) (suc at) → nat_eq b c ≡ false
+pub first : (c b : ℕ) (bs : List ℕ) (at : ℕ) → NoneBefore c (b ∷ bs) (suc at) → nat_eq b c ≡ false
 first c b bs at n = is_false (nat_eq b c) (n 0 (omega arith) (omega arith))
 
 pub split_first : (c : ℕ) (bytes : List ℕ) (at : ℕ) → at < length bytes → NoneBefore c bytes at → nat_eq (get_or bytes at 0) c ≡ true → slice_split (λ b. nat_eq b c) bytes ≡ take at bytes ∷ slice_split (λ b. nat_eq b c) (drop (suc at) bytes)

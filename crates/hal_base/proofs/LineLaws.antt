@@ -1,7 +1,7 @@
 -- A line and the record whose line it is.
-use Rattle.std.proofs.Common.{◌≡◌, ◌≢◌, ℕ, zero, suc, ◌+◌, ◌<◌, ◌≤◌, Bool, true, false, cond, nat_eq, List, [], ◌∷◌, ◌++◌, refl, sym, ap, subst, ◌∙◌, map, length, arith, append_assoc, append-nil, get_or, take, drop, ◌-◌}
+use Rattle.std.proofs.Common.{◌≡◌, ℕ, zero, suc, ◌<◌, ◌≤◌, false, nat_eq, List, [], ◌∷◌, ◌++◌, refl, sym, ap, subst, ◌∙◌, map, length, arith, append_assoc, append-nil, drop, ◌-◌}
 use Rattle.std.proofs.Math.ListN.{drop_of_length-le}
-use Rattle.std.specs.List.{AllByRecursion, flat_map, join_with_byte, slice_split}
+use Rattle.std.specs.List.{AllByRecursion, flat_map, join_with_byte}
 use Rattle.std.specs.Str.Lines.{strip_carriage_return}
 use Rattle.hal_base.specs.declared.value.Kind.{Kind}
 use Rattle.hal_base.specs.declared.value.Kind.TheVariants as kind
@@ -11,7 +11,7 @@ use Rattle.hal_base.specs.declared.fields.Schema.{Schema}
 use Rattle.hal_base.specs.declared.line.LineFault.{LineFault}
 use Rattle.hal_base.specs.declared.line.LineFault.TheVariants.{FieldCount, BadNumber, BadText, Memory}
 use Rattle.hal_base.specs.Values.{kind_of, IsValue, IsRecordOf}
-use Rattle.hal_base.specs.Lines.{value_text, pieces_of, line_of, table_text, lines_in, StandsFor, TextStandsForTable}
+use Rattle.hal_base.specs.Lines.{value_text, pieces_of, line_of, table_text, lines_in, TextStandsForTable}
 use Rattle.hal_base.specs.LineFaults.{Spelled, FirstBad, HasFault, pieces_in}
 use Rattle.hal_base.proofs.Cuts.{Without, lines_at_end, never_there}
 use Rattle.hal_base.proofs.Spellings.{value_plain, values_plain, split_joined, joined_without, same_value, same_values}

@@ -1,8 +1,7 @@
 -- What the steps of reading find, put together.
-use Rattle.std.proofs.Common.{◌≡◌, ◌≢◌, ℕ, zero, suc, ◌+◌, ◌<◌, ◌≤◌, List, [], ◌∷◌, ◌++◌, Result, Ok, Err, refl, sym, ap, subst, ◌∙◌, map, length, arith, take, drop, get_or, add-one, length-append, length-take}
+use Rattle.std.proofs.Common.{◌≡◌, ℕ, suc, ◌+◌, ◌<◌, ◌≤◌, List, [], ◌∷◌, ◌++◌, Result, Ok, Err, refl, sym, ap, subst, ◌∙◌, map, length, arith, take, drop, get_or, length-append, length-take}
 use Rattle.std.specs.List.{AllByRecursion, join_with_byte}
 use Rattle.std.specs.Result.{MatchResult, IfOk, IfErr}
-use Rattle.std.specs.Str.Lines.{strip_carriage_return}
 use Rattle.std.proofs.Math.Seq.{split_at}
 use Rattle.std.proofs.lemmas.List.Splits.{join_with_byte-slice_split}
 use Rattle.hal_base.specs.declared.value.Kind.{Kind}
@@ -15,10 +14,10 @@ use Rattle.hal_base.specs.declared.line.LineFault.TheVariants.{FieldCount, BadNu
 use Rattle.hal_base.specs.declared.table.TableFault.{TableFault}
 use Rattle.hal_base.specs.declared.table.TableFault.TheVariants as table
 use Rattle.hal_base.specs.Values.{kind_of, IsValue, IsRecordOf}
-use Rattle.hal_base.specs.Lines.{value_text, pieces_of, line_of, lines_in, StandsFor}
+use Rattle.hal_base.specs.Lines.{value_text, line_of, StandsFor}
 use Rattle.hal_base.specs.LineFaults.{Spelled, FirstBad, HasFault, pieces_in}
 use Rattle.hal_base.specs.LineReading.{IsRead, AreRead, HasPieceFault, HasFieldFault}
-use Rattle.hal_base.specs.TableFaults.{HasTableFault, FirstFault, GoesTooFar, GoesOn}
+use Rattle.hal_base.specs.TableFaults.{HasTableFault}
 use Rattle.hal_base.proofs.LineLaws.{first_bad, no_fault, one_record, same_length}
 
 abbrev HasFirstBad : Kind → List Kind → List (List ℕ) → ℕ → Type 0

@@ -1,5 +1,5 @@
 -- The texts of values: which bytes they have, and that each has one value.
-use Rattle.std.proofs.Common.{◌≡◌, ℕ, zero, suc, ◌+◌, ◌<◌, ◌≤◌, ◌^◌, ℤ, pos, negsuc, Bool, true, false, nat_eq, List, [], ◌∷◌, ◌++◌, refl, sym, ap, ◌∙◌, map, length, arith}
+use Rattle.std.proofs.Common.{◌≡◌, ℕ, suc, ◌<◌, ◌≤◌, ℤ, pos, negsuc, false, nat_eq, List, [], ◌∷◌, refl, ap, ◌∙◌, map, arith}
 use Rattle.std.specs.Int.{w64}
 use Rattle.std.specs.Prelude.{FitsSigned}
 use Rattle.std.specs.Fmt.{decimal, signed_decimal}
@@ -8,11 +8,8 @@ use Rattle.std.specs.Str.Parse.{AllDigits}
 use Rattle.std.proofs.lemmas.Fmt.{decimal_is_IsNumeral, signed_decimal_injective}
 use Rattle.std.proofs.lemmas.Str.Parse.{digit_from_value}
 use Rattle.std.proofs.lemmas.Bool.Decides.{nat_tests}
-use Rattle.hal_base.specs.declared.value.Kind.{Kind}
-use Rattle.hal_base.specs.declared.value.Kind.TheVariants as kind
 use Rattle.hal_base.specs.declared.value.Value.{Value}
 use Rattle.hal_base.specs.declared.value.Value.TheVariants.{Int, Text}
-use Rattle.hal_base.specs.Text.{IsText}
 use Rattle.hal_base.specs.Values.{kind_of, IsValue}
 use Rattle.hal_base.specs.Lines.{value_text}
 use Rattle.hal_base.proofs.Cuts.{Without, split_at_byte, split_without, without-append}

@@ -1,16 +1,14 @@
 -- What is wrong with a line or a table that no record or no records stand for.
-use Rattle.std.specs.Prelude.{◌≡◌, ◌≢◌, ◌==◌, ℕ, zero, suc, ◌+◌, ◌<◌, List, [], ◌∷◌, ◌++◌, map, length}
-use Rattle.std.specs.List.{AllByRecursion, slice_split}
-use Rattle.std.specs.Str.Lines.{strip_carriage_return}
+use Rattle.std.specs.Prelude.{◌≡◌, ◌≢◌, ◌==◌, ℕ, zero, suc, ◌+◌, List, [], ◌∷◌, length}
+use Rattle.std.specs.List.{slice_split}
 use Rattle.hal_base.specs.declared.value.Kind.{Kind}
 use Rattle.hal_base.specs.declared.value.Kind.TheVariants as kind
 use Rattle.hal_base.specs.declared.value.Value.{Value}
-use Rattle.hal_base.specs.declared.record.Record.{Record}
 use Rattle.hal_base.specs.declared.fields.Schema.{Schema}
 use Rattle.hal_base.specs.declared.line.LineFault.{LineFault}
 use Rattle.hal_base.specs.declared.line.LineFault.TheVariants.{FieldCount, BadNumber, BadText, Memory}
-use Rattle.hal_base.specs.Values.{kind_of, IsValue, IsRecordOf}
-use Rattle.hal_base.specs.Lines.{value_text, line_of, lines_in}
+use Rattle.hal_base.specs.Values.{kind_of, IsValue}
+use Rattle.hal_base.specs.Lines.{value_text}
 
 -- a value of this kind is written so
 pub record Spelled (kind : Kind) (piece : List ℕ) : Type 0 where

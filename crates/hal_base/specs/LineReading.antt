@@ -1,5 +1,5 @@
 -- What the steps of reading a line find, for their contracts alone.
-use Rattle.std.specs.Prelude.{◌≡◌, ◌≢◌, ℕ, suc, List, [], ◌∷◌, Option, None, Some, map}
+use Rattle.std.specs.Prelude.{◌≡◌, ◌≢◌, ℕ, suc, List, [], Option, None, Some, map}
 use Rattle.std.specs.List.{AllByRecursion}
 use Rattle.hal_base.specs.declared.value.Kind.{Kind}
 use Rattle.hal_base.specs.declared.value.Kind.TheVariants as kind

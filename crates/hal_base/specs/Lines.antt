@@ -1,15 +1,13 @@
 -- The text of values, records and tables, and when the bytes of a file stand for a table.
-use Rattle.std.specs.Prelude.{◌≡◌, ◌≢◌, ◌==◌, ℕ, zero, suc, ◌≤◌, ◌+◌, cond, List, [], ◌∷◌, ◌++◌, map, length}
+use Rattle.std.specs.Prelude.{◌≡◌, ◌==◌, ℕ, ◌≤◌, cond, List, [], ◌∷◌, ◌++◌, map, length}
 use Rattle.std.specs.Fmt.{signed_decimal}
-use Rattle.std.specs.List.{AllByRecursion, flat_map, join_with_byte, onto_first, slice_split}
+use Rattle.std.specs.List.{AllByRecursion, flat_map, join_with_byte, onto_first}
 use Rattle.std.specs.Str.Lines.{strip_carriage_return}
-use Rattle.hal_base.specs.declared.value.Kind.{Kind}
-use Rattle.hal_base.specs.declared.value.Kind.TheVariants as kind
 use Rattle.hal_base.specs.declared.value.Value.{Value}
 use Rattle.hal_base.specs.declared.value.Value.TheVariants.{Int, Text}
 use Rattle.hal_base.specs.declared.record.Record.{Record}
 use Rattle.hal_base.specs.declared.fields.Schema.{Schema}
-use Rattle.hal_base.specs.Values.{kind_of, IsValue, IsRecordOf}
+use Rattle.hal_base.specs.Values.{IsRecordOf}
 
 -- a number in digits, with `-` in front where it is negative; a text as it is
 abbrev pub value_text : Value → List ℕ

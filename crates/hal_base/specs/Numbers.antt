@@ -1,3 +1,4 @@
+-- The front of a number's spelling.
 use Rattle.std.specs.Prelude.{ℕ, ◌==◌, Bool, true, not, ◌&&◌, ◌||◌, List, [], ◌∷◌}
 
 -- no digit 0 and no sign at the front but those of a number's one spelling

@@ -1,5 +1,5 @@
 -- Values, records and their kinds.
-use Rattle.std.specs.Prelude.{◌≡◌, List, map, FitsSigned}
+use Rattle.std.specs.Prelude.{◌≡◌, map, FitsSigned}
 use Rattle.std.specs.Int.{w64}
 use Rattle.std.specs.List.{AllByRecursion}
 use Rattle.hal_base.specs.declared.value.Kind.{Kind}
@@ -10,6 +10,7 @@ use Rattle.hal_base.specs.declared.record.Record.{Record}
 use Rattle.hal_base.specs.declared.fields.Schema.{Schema}
 use Rattle.hal_base.specs.Text.{IsText}
 
+-- whether it is a number or a text
 abbrev pub kind_of : Value → Kind
 kind_of (Int _) = kind.Int
 kind_of (Text _) = kind.Text

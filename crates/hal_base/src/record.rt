@@ -41,7 +41,11 @@ impl CopyIn for Record {
 pub fn compare_rows(a: &Record, b: &Record) -> Ordering
     ensures { result ≡ record_cmp a.now b.now }
 {
-    compare(&a.key, &b.key).then(a.fields.compare(&b.fields))
+    // Most keys differ, and then the fields need not be looked at.
+    match compare(&a.key, &b.key) {
+        Ordering::Equal => a.fields.compare(&b.fields),
+        unequal => unequal,
+    }
 }
 
 /// The same records in order, in the memory that they have.

@@ -56,7 +56,9 @@ fn read_lines(alloc: Global, bytes: &[u8], schema: &Schema) -> Result<Records, T
     let mut left = bytes;
     'lines: while let Some((line, others)) = cut_line(left) {
         if rows.len() == MAX_RECORDS {
-            return Err(TableFault::TooMany { line: 10_000_001 });
+            return Err(TableFault::TooMany {
+                line: MAX_RECORDS as u32 + 1,
+            });
         }
         let number = rows.len() as u32 + 1;
         rows.push(read_numbered(alloc, line, schema, number)?)?;

@@ -1,5 +1,5 @@
 -- Counts over several calls.
-use Rattle.std.proofs.Common.{◌≡◌, ℕ, ◌<◌, ◌≤◌, ◌⊎◌, inl, inr, arith}
+use Rattle.std.proofs.Common.{ℕ, ◌≤◌, inl, inr, arith}
 use Rattle.hal_outside.specs.Told.{Rose}
 
 -- a count that rose in a later call rose since the first

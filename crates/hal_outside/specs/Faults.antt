@@ -1,3 +1,4 @@
+-- What is said of a fault, where it is a device's.
 use Rattle.hal_outside.specs.declared.faults.FileFault.{FileFault}
 use Rattle.hal_outside.specs.declared.faults.FileFault.TheVariants as file
 use Rattle.hal_outside.specs.declared.faults.SinkFault.{SinkFault}

@@ -10,6 +10,7 @@ use Rattle.std.specs.declared.alloc.Global.{Global}
 abbrev pub FileMap : Type 0
 FileMap = map.FinMap (slice_cmp nat_cmp) (List ℕ)
 
+-- the bytes of a vector
 abbrev pub vec_bytes : Vec ℕ Global → List ℕ
 vec_bytes v = v.items
 

@@ -7,7 +7,8 @@ ghost use Rattle.hal_outside.specs.Faults.{AtFileDevice};
 use crate::faults::FileFault;
 use std::alloc::Global;
 
-/// Files under names. Names and contents are bytes; no call changes a file that it does not name.
+/// Files under names. Names and contents are bytes. Where the files are told, no call changes a file
+/// that it does not name.
 pub trait Files {
     /// How many calls a device failed.
     ghost faults: { Self → ℕ };

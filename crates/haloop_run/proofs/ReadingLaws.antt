@@ -9,22 +9,9 @@ use Rattle.std.proofs.lemmas.Bool.{eqb-false, eqb-true}
 use Rattle.std.proofs.lemmas.Slice.Eq.{bytes_eq-Decides}
 use Rattle.std.proofs.lemmas.List.{take-append-drop}
 use Rattle.std.proofs.Math.Seq.{drop-append_seam, take-append_seam}
+use Rattle.hal_base.proofs.Cuts.{is_false, NoneBefore, later, first, Without}
 use Rattle.haloop_run.specs.Form.{Form, IsForm, form_text, is_name, is_name_byte, is_file, is_file_byte, begins_lower, reserved}
 use Rattle.haloop_run.specs.FormReading.{◌>>=◌, after, cut_at, onto_front, file_of}
-
-is_false : (b : Bool) → (b ≡ true → ⊥) → b ≡ false
-is_false true n = absurd (n refl)
-is_false false n = refl
-
--- no byte before this place is c
-abbrev pub NoneBefore : ℕ → List ℕ → ℕ → Type 0
-NoneBefore c bytes at = (k : ℕ) → 0 ≤ k → k < at → nat_eq (get_or bytes k 0) c ≡ true → ⊥
-
-later : (c b : ℕ) (bs : List ℕ) (at : ℕ) → NoneBefore c (b ∷ bs) (suc at) → NoneBefore c bs at
-later c b bs at n k l m = n (suc k) (omega arith) (omega arith)
-
-first : (c b : ℕ) (bs : List ℕ) (at : ℕ) → NoneBefore c (b ∷ bs) (suc at) → nat_eq b c ≡ false
-first c b bs at n = is_false (nat_eq b c) (n 0 (omega arith) (omega arith))
 
 pub cut_first : (c : ℕ) (bytes : List ℕ) (at : ℕ) → at < length bytes → NoneBefore c bytes at → nat_eq (get_or bytes at 0) c ≡ true → cut_at c bytes ≡ Some (take at bytes, drop (suc at) bytes)
 cut_first c [] at l n y = absurd (omega arith)
@@ -79,9 +66,6 @@ after_again words rest =
     let d : drop (length words) (words ++ rest) ≡ rest = drop-append_seam words rest in
     let e : bytes_eq (take (length words) (words ++ rest)) words ≡ true = (bytes_eq-Decides (take (length words) (words ++ rest)) words).1 t in
     rw (e, d)
-
-abbrev pub Without : ℕ → List ℕ → Type 0
-Without c bytes = AllByRecursion (λ b. nat_eq b c ≡ false) bytes
 
 pub cut_again : (c : ℕ) (bytes rest : List ℕ) → nat_eq c c ≡ true → Without c bytes → cut_at c (bytes ++ c ∷ rest) ≡ Some (bytes, rest)
 cut_again c [] rest e w = rw e

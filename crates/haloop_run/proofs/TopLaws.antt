@@ -12,19 +12,25 @@ use Rattle.haloop_run.specs.Words.{Asked, IsRun, IsUsage}
 use Rattle.haloop_run.specs.Form.{Form, IsForm, schedule_text}
 use Rattle.haloop_run.specs.FormReading.{file_of}
 use Rattle.haloop_run.specs.Inputs.{pairs, HasProgram, HasSchedule, IsAccepted, FirstAbsent, FirstRefused}
-use Rattle.haloop_run.specs.Outputs.{IsSaid, Gained, GainedPart, Leaves, LeavesPart, LeavesSome, OnTold, part_name, report, usage_line, absent_line, not_built_line, device_line, memory_line}
-use Rattle.haloop_run.specs.Steps.{Said, Came, Answered}
+use Rattle.haloop_run.specs.Outputs.{IsDue, Gained, GainedDue, Leaves, LeavesPart, LeavesSome, OnTold, part_name, report, usage_line, absent_line, not_built_line, device_line, memory_line}
+use Rattle.haloop_run.specs.Steps.{Said, SaidPart, Came, Answered}
 use Rattle.haloop_run.specs.Statuses.{Answers}
 use Rattle.haloop_run.proofs.ReadingLaws.{again}
 
-gained_part : (line : List ℕ) (before after : Option (List ℕ)) → IsSaid line → Gained before line after → GainedPart before after
-gained_part line None after s g = (line, s, g)
-gained_part line (Some held) after s g = (line, s, (length line, g ∙ ap (λ bytes. Some (held ++ bytes)) (sym (take-length line))))
+-- what was gained whole was gained as a prefix
+as_prefix : (line : List ℕ) (before after : Option (List ℕ)) → Gained before line after → AfterFailedAppend before line after
+as_prefix line None after g = g
+as_prefix line (Some held) after g = (length line, g ∙ ap (λ bytes. Some (held ++ bytes)) (sym (take-length line)))
+
+either : {A : Type 0} → A ⊎ A → A
+either (inl a) = a
+either (inr a) = a
 
 -- want of memory while another line was made
 pub said_memory : (line : List ℕ) (before after : Option (List ℕ)) (faults : Type 0) (result : ℕ) → Said 10 memory_line before after faults result → Said 11 line before after faults result
-said_memory line before after faults result (inl s) = inr (inr (s.0, gained_part memory_line before after (inr (inr (inr (inr (inr refl))))) s.1))
-said_memory line before after faults result (inr s) = inr s
+said_memory line before after faults result (inl s) = inr (inr (s.0, inr (as_prefix memory_line before after s.1)))
+said_memory line before after faults result (inr (inl s)) = inr (inl (s.0, s.1, inr (either s.2)))
+said_memory line before after faults result (inr (inr s)) = inr (inr (s.0, inr (either s.1)))
 
 -- ---- one input comes to one answer
 
@@ -110,20 +116,6 @@ module _ (held holds : Option (List ℕ)) (faults : Type 0) (result : ℕ) where
   abbrev pub Spoke : Result (Unit {0}) Refusal → Type 0
   Spoke done = Answered done held holds faults result
 
-  part_said : (n : ℕ) (line : List ℕ) → IsSaid line → Said n line held holds faults result → GainedPart held holds
-  part_said n line i (inl s) = gained_part line held holds i s.1
-  part_said n line i (inr (inl s)) = s.2
-  part_said n line i (inr (inr s)) = s.1
-
-  -- whatever was answered, the sink gained a prefix of one line
-  pub said_part : (done : Result (Unit {0}) Refusal) → Spoke done → GainedPart held holds
-  said_part (Ok d) s = part_said 0 report (inl refl) s
-  said_part (Err refusal.Usage) s = part_said 1 usage_line (inr (inl refl)) s
-  said_part (Err (refusal.Absent name)) s = part_said 11 (absent_line name) (inr (inr (inl (name, refl)))) s
-  said_part (Err refusal.NotBuilt) s = part_said 12 not_built_line (inr (inr (inr (inl refl)))) s
-  said_part (Err refusal.Device) s = part_said 8 device_line (inr (inr (inr (inr (inl refl))))) s
-  said_part (Err refusal.Memory) s = part_said 10 memory_line (inr (inr (inr (inr (inr refl))))) s
-
   said_status : (n : ℕ) (line : List ℕ) → Said n line held holds faults result → Answers n result
   said_status n line (inl s) = inl s.0
   said_status n line (inr (inl s)) = inr (inl s.0)
@@ -176,6 +168,43 @@ module _ (held holds : Option (List ℕ)) (faults : Type 0) (result : ℕ) where
     accepted_comes (Err refusal.NotBuilt) c s asked form rows g i = absurd (refused_not_accepted files c.0 form rows c.2.1 (at_asked (λ x. IsAccepted files x form rows) asked c.0 g c.1 i))
     accepted_comes (Err refusal.Device) c s asked form rows g i = failed 0 8 device_line s (inl refl)
     accepted_comes (Err refusal.Memory) c s asked form rows g i = failed 0 10 memory_line s (inr refl)
+
+-- a part of a line that is due
+due_part : (words : List (List ℕ)) (before after : Option FileMap) (faults : Type 0) (line : List ℕ) (held holds : Option (List ℕ)) → IsDue words before after faults line → SaidPart line held holds → GainedDue words before after faults held holds
+due_part words before after faults line held holds d (inl p) = (line, d, p)
+due_part words before after faults line held holds d (inr p) = (memory_line, inr (inr (inr (inr (inr refl)))), p)
+
+-- what was said, if it was not said whole with its status
+failed_part : (n : ℕ) (line : List ℕ) (held holds : Option (List ℕ)) (faults : Type 0) (result : ℕ) → Said n line held holds faults result → SaidPart line held holds
+failed_part n line held holds faults result (inl s) = inl (as_prefix line held holds s.1)
+failed_part n line held holds faults result (inr (inl s)) = s.2
+failed_part n line held holds faults result (inr (inr s)) = s.1
+
+-- whatever was answered, the sink gained a prefix of a line that is due
+pub said_due : (words : List (List ℕ)) (before after : Option FileMap) (faults absents : Type 0) (held holds : Option (List ℕ)) (sink_faults : Type 0) (result : ℕ) (done : Result (Unit {0}) Refusal) → Came words before after faults absents done → Answered done held holds sink_faults result → GainedDue words before after faults held holds
+said_due words before after f a held holds sf r (Ok d) c s = due_part words before after f report held holds (inl (refl, c.0, c.1, c.2)) (failed_part 0 report held holds sf r s)
+said_due words before after f a held holds sf r (Err refusal.Usage) c s = due_part words before after f usage_line held holds (inr (inl (refl, c.0))) (failed_part 1 usage_line held holds sf r s)
+said_due words before after f a held holds sf r (Err (refusal.Absent name)) c s = due_part words before after f (absent_line name) held holds (inr (inr (inl (c.0, c.1, name, refl, c.2.2)))) (failed_part 11 (absent_line name) held holds sf r s)
+said_due words before after f a held holds sf r (Err refusal.NotBuilt) c s = due_part words before after f not_built_line held holds (inr (inr (inr (inl (c.0, c.1, refl, c.2.1))))) (failed_part 12 not_built_line held holds sf r s)
+said_due words before after f a held holds sf r (Err refusal.Device) c s = due_part words before after f device_line held holds (inr (inr (inr (inr (inl (refl, c.2.0)))))) (failed_part 8 device_line held holds sf r s)
+said_due words before after f a held holds sf r (Err refusal.Memory) c s = due_part words before after f memory_line held holds (inr (inr (inr (inr (inr refl))))) (failed_part 10 memory_line held holds sf r s)
+
+-- a status 8 for an answer that has another comes of the sink
+sink_failed : (n : ℕ) (line : List ℕ) (held holds : Option (List ℕ)) (faults : Type 0) (result : ℕ) → Said n line held holds faults result → result ≡ 8 → n ≢ 8 → faults
+sink_failed n line held holds faults result (inl s) e d = absurd (d (sym s.0 ∙ e))
+sink_failed n line held holds faults result (inr (inl s)) e d = s.1
+sink_failed n line held holds faults result (inr (inr s)) e d = absurd (omega (arith, s.0))
+
+-- a status 8 comes of the files, and then its line was said whole, or of the sink
+pub said_device : (words : List (List ℕ)) (before after : Option FileMap) (faults absents : Type 0) (held holds : Option (List ℕ)) (sink_faults : Type 0) (result : ℕ) (done : Result (Unit {0}) Refusal) → Came words before after faults absents done → Answered done held holds sink_faults result → result ≡ 8 → (faults × Gained held device_line holds) ⊎ (sink_faults × GainedDue words before after faults held holds)
+said_device words before after f a held holds sf r (Ok d) c s e = inr (sink_failed 0 report held holds sf r s e (omega arith), said_due words before after f a held holds sf r (Ok d) c s)
+said_device words before after f a held holds sf r (Err refusal.Usage) c s e = inr (sink_failed 1 usage_line held holds sf r s e (omega arith), said_due words before after f a held holds sf r (Err refusal.Usage) c s)
+said_device words before after f a held holds sf r (Err (refusal.Absent name)) c s e = inr (sink_failed 11 (absent_line name) held holds sf r s e (omega arith), said_due words before after f a held holds sf r (Err (refusal.Absent name)) c s)
+said_device words before after f a held holds sf r (Err refusal.NotBuilt) c s e = inr (sink_failed 12 not_built_line held holds sf r s e (omega arith), said_due words before after f a held holds sf r (Err refusal.NotBuilt) c s)
+said_device words before after f a held holds sf r (Err refusal.Device) c (inl s) e = inl (c.2.0, s.1)
+said_device words before after f a held holds sf r (Err refusal.Device) c (inr (inl s)) e = inr (s.1, said_due words before after f a held holds sf r (Err refusal.Device) c (inr (inl s)))
+said_device words before after f a held holds sf r (Err refusal.Device) c (inr (inr s)) e = absurd (omega (arith, s.0))
+said_device words before after f a held holds sf r (Err refusal.Memory) c s e = inr (sink_failed 10 memory_line held holds sf r s e (omega arith), said_due words before after f a held holds sf r (Err refusal.Memory) c s)
 
 module _ (words : List (List ℕ)) (held holds : Option (List ℕ)) (faults absents sink_faults : Type 0) (result : ℕ) (done : Result (Unit {0}) Refusal) (s : Answered done held holds sink_faults result) where
   pub absent_answered : (before after : Option FileMap) → Came words before after faults absents done → IfSome before (λ told. (asked : Asked) (name : List ℕ) → IsRun words asked → FirstAbsent told asked name → Answers 11 result)

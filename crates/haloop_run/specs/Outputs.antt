@@ -1,5 +1,5 @@
 -- What a run leaves: its part files, and its lines on the sink.
-use Rattle.std.specs.Prelude.{◌≡◌, ℕ, true, false, ◌⊎◌, List, [], ◌∷◌, ◌++◌, Option, None, Some, codes, take}
+use Rattle.std.specs.Prelude.{◌≡◌, ℕ, true, false, ◌⊎◌, List, [], ◌∷◌, ◌++◌, Option, None, Some, IfSome, codes, take}
 use Rattle.std.specs.FinMap as map
 use Rattle.std.specs.Option.{option_map}
 use Rattle.hal_base.specs.declared.value.Value.{Value}
@@ -10,9 +10,9 @@ use Rattle.hal_base.specs.Meaning.{Meaning}
 use Rattle.hal_outside.specs.Told.{FileMap, AfterFailedAppend}
 use Rattle.plain_job.specs.Ends.{IsChain, Ending, limit}
 use Rattle.plain_job.specs.Predefined.{same, least}
-use Rattle.haloop_run.specs.Words.{Asked, IsRun}
+use Rattle.haloop_run.specs.Words.{Asked, IsRun, IsUsage}
 use Rattle.haloop_run.specs.Form.{Form}
-use Rattle.haloop_run.specs.Inputs.{pairs, IsAccepted}
+use Rattle.haloop_run.specs.Inputs.{pairs, FirstAbsent, FirstRefused, IsAccepted}
 
 -- the functions of the form: the map `same`, the reduce `least`, and one part
 abbrev pub form_meaning : Meaning
@@ -96,14 +96,20 @@ device_line = codes "error: device\n"
 abbrev pub memory_line : List ℕ
 memory_line = codes "error: memory\n"
 
--- one of these lines, or the report
-abbrev pub IsSaid : List ℕ → Type 0
-IsSaid line = (line ≡ report) ⊎ (line ≡ usage_line) ⊎ ((name : List ℕ) × (line ≡ absent_line name)) ⊎ (line ≡ not_built_line) ⊎ (line ≡ device_line) ⊎ (line ≡ memory_line)
-
 -- what the sink tells has gained these bytes
 abbrev pub Gained : Option (List ℕ) → List ℕ → Option (List ℕ) → Type 0
 Gained before bytes after = after ≡ option_map (λ held. held ++ bytes) before
 
--- it has gained a prefix of one line
-abbrev pub GainedPart : Option (List ℕ) → Option (List ℕ) → Type 0
-GainedPart before after = (line : List ℕ) × IsSaid line × AfterFailedAppend before line after
+-- a line that is due: the report of a run that is done, or the line of what hindered it
+abbrev pub IsDue : List (List ℕ) → Option FileMap → Option FileMap → Type 0 → List ℕ → Type 0
+IsDue words before after faults line =
+    ((line ≡ report) × (asked : Asked) × IsRun words asked × OnTold (Leaves asked) before after)
+    ⊎ ((line ≡ usage_line) × IsUsage words)
+    ⊎ ((asked : Asked) × IsRun words asked × (name : List ℕ) × (line ≡ absent_line name) × IfSome before (λ files. FirstAbsent files asked name))
+    ⊎ ((asked : Asked) × IsRun words asked × (line ≡ not_built_line) × IfSome before (λ files. FirstRefused files asked))
+    ⊎ ((line ≡ device_line) × faults)
+    ⊎ (line ≡ memory_line)
+
+-- it has gained a prefix of a line that is due
+abbrev pub GainedDue : List (List ℕ) → Option FileMap → Option FileMap → Type 0 → Option (List ℕ) → Option (List ℕ) → Type 0
+GainedDue words before after faults held holds = (line : List ℕ) × IsDue words before after faults line × AfterFailedAppend held line holds

@@ -1,11 +1,11 @@
 -- What the steps of a run find and leave, for their contracts alone.
-use Rattle.std.specs.Prelude.{◌≡◌, ℕ, ◌≤◌, ◌⊎◌, List, Option, None, Some, IfSome, Result, Ok, Err, MatchResult}
-use Rattle.hal_outside.specs.Told.{FileMap, Rose}
+use Rattle.std.specs.Prelude.{◌≡◌, ℕ, ◌⊎◌, List, Option, None, Some, IfSome, Result, Ok, Err}
+use Rattle.hal_outside.specs.Told.{FileMap, AfterFailedAppend}
 use Rattle.haloop_run.specs.declared.refusal.Refusal.{Refusal}
 use Rattle.haloop_run.specs.declared.refusal.Refusal.TheVariants as refusal
 use Rattle.haloop_run.specs.Words.{Asked, IsRun, IsUsage}
 use Rattle.haloop_run.specs.Inputs.{FirstAbsent, FirstRefused}
-use Rattle.haloop_run.specs.Outputs.{Leaves, LeavesSome, OnTold, Gained, GainedPart, report, usage_line, absent_line, not_built_line, device_line, memory_line}
+use Rattle.haloop_run.specs.Outputs.{Leaves, LeavesSome, OnTold, Gained, report, usage_line, absent_line, not_built_line, device_line, memory_line}
 
 -- the causes of a refusal before anything is written: of an absent file's name, of a refused file, of a device, and that a read found no file
 abbrev pub Refused : Refusal → (List ℕ → Type 0) → Type 0 → Type 0 → Type 0 → Type 0
@@ -32,9 +32,13 @@ Came words before after faults absents (Err refusal.NotBuilt) = (asked : Asked) 
 Came words before after faults absents (Err refusal.Device) = (asked : Asked) × IsRun words asked × RunRefused asked before after faults absents refusal.Device
 Came words before after faults absents (Err refusal.Memory) = (asked : Asked) × IsRun words asked × RunRefused asked before after faults absents refusal.Memory
 
--- the line was written, with this status, or the sink failed and had a part of a line, or memory ran out
+-- a prefix of the line was written, or one of the line of want of memory in its place
+abbrev pub SaidPart : List ℕ → Option (List ℕ) → Option (List ℕ) → Type 0
+SaidPart line before after = AfterFailedAppend before line after ⊎ AfterFailedAppend before memory_line after
+
+-- the line was written, with this status, or the sink failed at it, or memory ran out at it or before it
 abbrev pub Said : ℕ → List ℕ → Option (List ℕ) → Option (List ℕ) → Type 0 → ℕ → Type 0
-Said status line before after faults result = ((result ≡ status) × Gained before line after) ⊎ ((result ≡ 8) × faults × GainedPart before after) ⊎ ((result ≡ 10) × GainedPart before after)
+Said status line before after faults result = ((result ≡ status) × Gained before line after) ⊎ ((result ≡ 8) × faults × SaidPart line before after) ⊎ ((result ≡ 10) × SaidPart line before after)
 
 -- the answer was said
 abbrev pub Answered : Result (Unit {0}) Refusal → Option (List ℕ) → Option (List ℕ) → Type 0 → ℕ → Type 0

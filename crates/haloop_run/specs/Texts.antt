@@ -11,6 +11,7 @@ use Rattle.haloop_run.specs.Words.{Asked}
 abbrev pub texts : List (String Global) → List (List ℕ)
 texts words = map (λ word. string_bytes word) words
 
+-- what a run asks
 abbrev pub asked_by : Run → Asked
 asked_by run = record { program = run.program.now; schedule = run.schedule.now; out = run.out.now }
 

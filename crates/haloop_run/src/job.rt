@@ -6,6 +6,7 @@ use crate::listed::Listed;
 use crate::predefined::Predefined;
 use group_reduce::reduce_part;
 use hal_base::{Functions, Memory, Records, lines};
+use plain_job::plain_stream;
 use std::alloc::Global;
 
 /// The text of the one part of the chain over the form's table.
@@ -25,13 +26,9 @@ fn one_job(alloc: Global, rows: Records) -> Result<Records, Memory>
     reduce_part(alloc, &functions, 1, 1, &mut streams)
 }
 
-/// What the map of the only source emits for the rows, one after another.
+/// What the map of the only source emits for the rows, which are given up, one after another.
 fn mapped<F: Functions>(alloc: Global, functions: &F, rows: Records) -> Result<Records, Memory>
     ensures { IfOk result (λ out. out ≡ stream ((F.meaning functions.now).map 1 1 1) rows) }
 {
-    let mut out = Records::with_capacity(alloc, rows.len())?;
-    'rows: for row in rows.as_slice() {
-        functions.map(alloc, 1, 1, 1, row, &mut out)?;
-    }
-    Ok(out)
+    plain_stream(alloc, functions, 1, 1, 1, &rows)
 }

@@ -7,7 +7,7 @@ pub(crate) enum Refusal {
     Usage,
     /// The file of this name is not there.
     Absent(Items<u8>),
-    /// The program, the schedule or the table is of a form that is not built yet.
+    /// The program or the schedule is of a form that is not built yet, or the table is refused.
     NotBuilt,
     /// A device failed.
     Device,

@@ -3,7 +3,7 @@ ghost use Rattle.hal_base.specs.declared.record.Record.{Record as Row};
 ghost use Rattle.hal_outside.specs.Told.{Rose};
 ghost use Rattle.haloop_run.specs.Form.{Form};
 ghost use Rattle.haloop_run.specs.Inputs.{FirstAbsent, FirstRefused, IsAccepted};
-ghost use Rattle.haloop_run.specs.Outputs.{Gained, GainedPart, IsSaid, Leaves, LeavesPart, OnTold, absent_line, device_line, not_built_line, report, usage_line};
+ghost use Rattle.haloop_run.specs.Outputs.{Gained, GainedDue, Leaves, LeavesPart, OnTold, absent_line, device_line, not_built_line, report, usage_line};
 ghost use Rattle.haloop_run.specs.Statuses.{Answers, IsStatus, Performed};
 ghost use Rattle.haloop_run.specs.Steps.{Answered, Came, Said};
 ghost use Rattle.haloop_run.specs.Texts.{texts};
@@ -45,11 +45,12 @@ pub fn haloop_top<F: Files, O: Sink>(
         × IfSome (F.told files.old) (λ told. FirstRefused told asked) × Gained (O.told out.old) not_built_line (O.told out.new) }
     ensures kept { (result ≡ 1) ⊎ (result ≡ 11) ⊎ (result ≡ 12) → F.told files.new ≡ F.told files.old }
 
-    // 8 and 10: a count of faults rose, or memory ran out, which no clause ties to anything.
+    // 8 and 10: a count of faults rose, or memory ran out, which no clause ties to anything. Where the sink
+    // failed, it has a prefix of the line that was due.
     ensures device { result ≡ 8 → Rose (F.faults files.old) (F.faults files.new) ⊎ Rose (O.faults out.old) (O.faults out.new) }
-    ensures device_said { result ≡ 8 → Gained (O.told out.old) device_line (O.told out.new)
-        ⊎ (Rose (O.faults out.old) (O.faults out.new) × GainedPart (O.told out.old) (O.told out.new)) }
-    ensures memory_said { result ≡ 10 → GainedPart (O.told out.old) (O.told out.new) }
+    ensures device_said { result ≡ 8 → (Rose (F.faults files.old) (F.faults files.new) × Gained (O.told out.old) device_line (O.told out.new))
+        ⊎ (Rose (O.faults out.old) (O.faults out.new) × GainedDue (texts words.now) (F.told files.old) (F.told files.new) (Rose (F.faults files.old) (F.faults files.new)) (O.told out.old) (O.told out.new)) }
+    ensures memory_said { result ≡ 10 → GainedDue (texts words.now) (F.told files.old) (F.told files.new) (Rose (F.faults files.old) (F.faults files.new)) (O.told out.old) (O.told out.new) }
     ensures partly { (result ≡ 8) ⊎ (result ≡ 10) → (F.told files.new ≡ F.told files.old)
         ⊎ ((asked : Asked) × IsRun (texts words.now) asked × OnTold (LeavesPart asked) (F.told files.old) (F.told files.new)) }
 
@@ -124,7 +125,6 @@ fn absent_text(alloc: Global, name: &Items<u8>) -> Result<Vec<u8>, Memory>
 
 /// Writes one text, and answers the status; where the sink fails, 8 or 10 in its place.
 fn tell<O: Sink>(out: &mut O, line: &[u8], status: u8) -> u8
-    requires { IsSaid line.now }
     ensures sink_faults_stay { O.faults out.old ≤ O.faults out.new }
     ensures said { Said status line.now (O.told out.old) (O.told out.new) (Rose (O.faults out.old) (O.faults out.new)) result }
 {

@@ -1,5 +1,5 @@
 -- Sorting each stream changes no job.
-use Rattle.std.proofs.Common.{◌≡◌, ℕ, ◌+◌, Bool, true, false, cond, ◌||◌, List, [], ◌∷◌, ◌++◌, refl, sym, ap, ◌∙◌, map, arith}
+use Rattle.std.proofs.Common.{◌≡◌, ℕ, ◌+◌, Bool, true, false, cond, ◌||◌, List, [], ◌∷◌, refl, sym, ap, ◌∙◌, map, arith}
 use Rattle.std.specs.Ordering.{is_gt, eq_by_cmp}
 use Rattle.std.specs.Cmp.Lexicographic.{slice_cmp}
 use Rattle.std.specs.List.{AllByRecursion, list_any, filter, flat_map}
@@ -10,7 +10,7 @@ use Rattle.hal_base.specs.declared.record.Record.{Record}
 use Rattle.hal_base.specs.Order.{value_cmp, record_cmp}
 use Rattle.hal_base.specs.Laws.{value_cmp_total, value_cmp_exact, fields_exact}
 use Rattle.hal_base.specs.Sorted.{placed, sorted}
-use Rattle.plain_job.specs.Job.{has_key, key_of, fields_of, group, keys, job}
+use Rattle.plain_job.specs.Job.{has_key, key_of, fields_of, group, keys}
 use Rattle.hal_base.proofs.Strict.{or_swap, strict_distinct, any_distinct, same_strict}
 use Rattle.plain_job.proofs.Keys.{all_keys, flat_alike}
 use Rattle.hal_base.proofs.Sorts.{times, one, times_sorted, ascending_sorted, same_ascending}

@@ -1,5 +1,5 @@
 -- The keys of streams, and jobs that are alike at each key.
-use Rattle.std.proofs.Common.{◌≡◌, Bool, true, List, [], ◌∷◌, refl, ap, map}
+use Rattle.std.proofs.Common.{◌≡◌, true, List, [], ◌∷◌, refl, ap, map}
 use Rattle.std.specs.List.{AllByRecursion, filter, flat_map}
 use Rattle.hal_base.specs.declared.value.Value.{Value}
 use Rattle.hal_base.specs.declared.record.Record.{Record}

@@ -1,5 +1,4 @@
-use Rattle.std.proofs.Common.{◌≡◌, Bool, true, false, cond, ◌&&◌, ◌||◌, List, [], ◌∷◌, ◌++◌, refl, sym, ap, ◌∙◌, map}
-use Rattle.std.specs.declared.cmp.Ordering.{Ordering}
+use Rattle.std.proofs.Common.{◌≡◌, Bool, true, false, cond, ◌&&◌, ◌||◌, List, [], ◌∷◌, refl, sym, ap, ◌∙◌, map}
 use Rattle.std.specs.declared.cmp.Ordering.TheVariants.{Less, Equal, Greater}
 use Rattle.std.specs.Ordering.{is_eq, eq_by_cmp}
 use Rattle.std.specs.Cmp.Lexicographic.{slice_cmp}
@@ -9,8 +8,8 @@ use Rattle.hal_base.specs.declared.value.Value.{Value}
 use Rattle.hal_base.specs.declared.record.Record.{Record}
 use Rattle.hal_base.specs.Order.{value_cmp}
 use Rattle.hal_base.specs.Laws.{value_cmp_total, value_cmp_exact}
-use Rattle.hal_base.specs.Sorted.{sorted, distinct}
-use Rattle.plain_job.specs.Job.{has_key, key_of, fields_of, group, keys, job}
+use Rattle.hal_base.specs.Sorted.{sorted}
+use Rattle.plain_job.specs.Job.{has_key, key_of, fields_of, group, keys}
 use Rattle.hal_base.proofs.Strict.{Strict, strict_distinct, any_distinct, same_strict}
 use Rattle.plain_job.proofs.Keys.{all_keys, flat_alike, all_kept}
 use Rattle.plain_job.specs.Laws.{part, PartsMakeTheJob}

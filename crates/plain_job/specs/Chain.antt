@@ -1,5 +1,5 @@
 -- The unrolled chain of plain jobs: round after round, each step over whole lists.
-use Rattle.std.specs.Prelude.{ℕ, zero, suc, ◌+◌, ◌==◌, List, [], ◌∷◌, Option, None, Some, map, if◌then◌else◌}
+use Rattle.std.specs.Prelude.{ℕ, zero, suc, ◌+◌, ◌==◌, List, [], ◌∷◌, None, Some, map, if◌then◌else◌}
 use Rattle.std.specs.List.{flat_map}
 use Rattle.hal_base.specs.declared.record.Record.{Record}
 use Rattle.hal_base.specs.declared.shape.Origin.{Origin}

@@ -1,5 +1,5 @@
 -- When the chain ends, and what it leaves.
-use Rattle.std.specs.Prelude.{◌≡◌, ℕ, zero, suc, ◌+◌, ◌<◌, ◌≤◌, min, sum, Bool, true, false, List, [], ◌∷◌, ◌++◌, map, codes, decimal, if◌then◌else◌}
+use Rattle.std.specs.Prelude.{◌≡◌, ℕ, suc, ◌<◌, ◌≤◌, min, sum, Bool, true, false, List, [], ◌∷◌, map, codes, if◌then◌else◌}
 use Rattle.std.specs.Ordering.{is_eq}
 use Rattle.std.specs.Cmp.Lexicographic.{slice_cmp}
 use Rattle.hal_base.specs.declared.value.Value.{Value}
@@ -9,7 +9,7 @@ use Rattle.hal_base.specs.Order.{value_cmp}
 use Rattle.hal_base.specs.Meaning.{Meaning}
 use Rattle.hal_base.specs.Lines.{table_text}
 use Rattle.plain_job.specs.Job.{group, keys}
-use Rattle.plain_job.specs.Chain.{together, state_after, last_out}
+use Rattle.plain_job.specs.Chain.{state_after, last_out}
 
 -- how far the field lists of a key are from those of the round before; where the program stops exactly, whether they differ
 abbrev pub key_distance : Meaning → Bool → Value → List (List Value) → List (List Value) → ℕ

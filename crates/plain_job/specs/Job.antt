@@ -12,12 +12,15 @@ use Rattle.hal_base.specs.Sorted.{sorted, distinct}
 abbrev pub stream : (Record → List Record) → List Record → List Record
 stream means rows = flat_map means rows
 
+-- whether a record has this key
 abbrev pub has_key : Value → Record → Bool
 has_key key row = is_eq (value_cmp key row.key)
 
+-- the key of a record
 abbrev pub key_of : Record → Value
 key_of row = row.key
 
+-- the field list of a record
 abbrev pub fields_of : Record → List Value
 fields_of row = row.fields
 

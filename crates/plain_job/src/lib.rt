@@ -3,6 +3,11 @@
 
 ghost use Rattle.plain_job.specs.Laws.{PartsMakeTheJob, SortingKeepsTheJob};
 
+mod insertion;
+mod plain;
+
+pub use plain::{group_of, keys_of, plain_part, plain_stream};
+
 /// The job of a part is the job of the streams' records of that part.
 pub fn parts_make_the_job()
     ensures { PartsMakeTheJob }

@@ -1,6 +1,4 @@
-use Rattle.std.proofs.Common.{◌≡◌, ◌++◌, None, Some, true, sym, ap, ◌∙◌, map, append_assoc, append-nil}
-use Rattle.plain_job.specs.Job.{job}
-use Rattle.group_reduce.specs.Front.{least_key_of, rest}
+use Rattle.std.proofs.Common.{◌++◌, sym, ap, ◌∙◌, map, append_assoc, append-nil}
 use Rattle.group_reduce.proofs.Streams.{job_step, job_done, shorter}
 use Rattle.group_reduce.proofs.reduce_part.Goals as goal
 

@@ -1,4 +1,4 @@
-use Rattle.std.proofs.Common.{◌≡◌, ◌++◌, ◌∷◌, [], append_assoc, sym, ap, ◌∙◌, List, ℕ, arith}
+use Rattle.std.proofs.Common.{◌∷◌, append_assoc, arith}
 use Rattle.hal_base.specs.declared.value.Value.{Value}
 use Rattle.hal_base.proofs.LineLaws.{line_parts, whole}
 use Rattle.hal_base.specs.Lines.{value_text}

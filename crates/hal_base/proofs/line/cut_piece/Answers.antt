@@ -1,5 +1,4 @@
-use Rattle.std.proofs.Common.{◌+◌, ◌∷◌, ap, ◌∙◌, sym, take, add-one}
-use Rattle.hal_base.specs.LineFaults.{pieces_in}
+use Rattle.std.proofs.Common.{add-one}
 use Rattle.hal_base.proofs.Cuts.{split_first, split_none, to_end}
 use Rattle.hal_base.proofs.line.cut_piece.Goals as goal
 

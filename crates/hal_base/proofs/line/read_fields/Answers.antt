@@ -1,4 +1,4 @@
-use Rattle.std.proofs.Common.{◌≡◌, List, ℕ, sym, ap, ◌∙◌, ◌++◌, map, suc, drop, arith}
+use Rattle.std.proofs.Common.{sym, ap, ◌∙◌, ◌++◌, map, arith}
 use Rattle.std.specs.Option.{option_copied}
 use Rattle.std.proofs.lemmas.Result.{err_from_is_err_and}
 use Rattle.hal_base.specs.Lines.{value_text}

@@ -1,4 +1,4 @@
-use Rattle.std.proofs.Common.{◌≡◌, List, ℕ, subst}
+use Rattle.std.proofs.Common.{List, subst}
 use Rattle.hal_base.specs.declared.value.Kind.{Kind}
 use Rattle.hal_base.specs.LineReading.{AreRead, pieces_left}
 use Rattle.std.specs.Option.{option_copied}

@@ -1,5 +1,4 @@
-use Rattle.std.proofs.Common.{◌+◌, ◌∷◌, ap, ◌∙◌, sym, take, add-one, arith, ◌<◌, length}
-use Rattle.hal_base.specs.Lines.{lines_in}
+use Rattle.std.proofs.Common.{sym, add-one, arith, ◌<◌, length}
 use Rattle.hal_base.proofs.Cuts.{lines_first, lines_none, to_end}
 use Rattle.std.proofs.lemmas.Bool.{eqb-false}
 use Rattle.hal_base.proofs.table.cut_line.Goals as goal

@@ -1,11 +1,8 @@
-use Rattle.std.proofs.Common.{◌≡◌, List, ℕ, inl, inr, ◌∙◌, subst}
+use Rattle.std.proofs.Common.{◌≡◌, List, ℕ, ◌∙◌, subst}
 use Rattle.hal_outside.specs.Told.{Rose}
 use Rattle.haloop_run.specs.Steps.{Said}
 use Rattle.haloop_run.proofs.TopLaws.{said_memory}
 use Rattle.haloop_run.proofs.top.tell_absent.Goals as goal
-
-pub tell-requires : goal.tell-requires
-tell-requires g c = inr (inr (inl (c.args.name.now, c.as_slice.ensures.value ∙ c.in-Ok.ensures)))
 
 pub returns-in-Ok-clause-said : goal.returns-in-Ok-clause-said
 returns-in-Ok-clause-said g c =

@@ -1,0 +1,131 @@
+-- Small worked programs, as shapes, meanings and tables.
+use Rattle.std.specs.Prelude.{◌≡◌, ℕ, ◌+◌, ◌%◌, ◌==◌, ℤ, pos, negsuc, ◌+ℤ◌, ◌*ℤ◌, int_div, Bool, true, false, List, [], ◌∷◌, Option, None, Some, map, length, if◌then◌else◌}
+use Rattle.std.specs.List.{flat_map}
+use Rattle.hal_base.specs.declared.value.Kind.TheVariants as kind
+use Rattle.hal_base.specs.declared.value.Value.{Value}
+use Rattle.hal_base.specs.declared.value.Value.TheVariants.{Int, Text}
+use Rattle.hal_base.specs.declared.record.Record.{Record}
+use Rattle.hal_base.specs.declared.fields.Schema.{Schema}
+use Rattle.hal_base.specs.declared.shape.Origin.{Origin}
+use Rattle.hal_base.specs.declared.shape.Origin.TheVariants.{State, Prev, Table}
+use Rattle.hal_base.specs.declared.shape.Source.{Source}
+use Rattle.hal_base.specs.declared.shape.Step.{Step}
+use Rattle.hal_base.specs.declared.shape.Shape.{Shape}
+use Rattle.hal_base.specs.Meaning.{Meaning}
+use Rattle.plain_job.specs.Predefined.{same, least, hop, made, keyed, add}
+
+-- a record of two numbers
+abbrev pub pair : ℕ → ℕ → Record
+pair k v = made (Int (pos k)) (Int (pos v) ∷ [])
+
+abbrev pub pairs : Schema
+pairs = record { key = kind.Int; fields = kind.Int ∷ [] }
+
+abbrev pub source : Origin → Source
+source from = record { from = from; stream = pairs; reducer_input = false; mapper_input = false }
+
+abbrev pub step : List Source → Step
+step sources = record { sources = sources; out = pairs }
+
+-- the default part of a number of two
+abbrev pub odd : Value → ℕ
+odd (Int (pos n)) = n % 2
+odd (Int (negsuc n)) = (n + 1) % 2
+odd (Text bytes) = 0
+
+-- a program whose maps are all `same` and whose steps have these reduces
+abbrev pub program : (ℕ → Value → List (List (List Value)) → List Record) → (Value → ℕ) → (Value → List (List Value) → List (List Value) → ℕ) → Meaning
+program reduce partition distance = record {
+  map = λ i j s row. same row;
+  reduce = λ i j. reduce j;
+  partition = λ i j key. partition key;
+  distance = distance;
+  map_uses_round = λ j s. false;
+  partition_uses_round = λ j. false;
+  keeps_key = λ j. false;
+}
+
+-- a shape of tables of pairs, of which the first is the start
+abbrev pub shape : ℕ → ℕ → Bool → ℕ → ℕ → List Step → Shape
+shape parts rounds exact threshold tables steps = record {
+  parts = parts;
+  rounds = rounds;
+  exact = exact;
+  threshold = threshold;
+  start = 0;
+  tables = if tables == 1 then pairs ∷ [] else pairs ∷ pairs ∷ [];
+  blocks = [];
+  steps = steps;
+  reducer_output = false;
+}
+
+abbrev pub none : Value → List (List Value) → List (List Value) → ℕ
+none key old new = 0
+
+-- ---- distances by hops
+
+abbrev pub hops : Meaning
+hops = program (λ j. if j == 1 then hop else least) odd none
+
+abbrev pub hops_shape : ℕ → Shape
+hops_shape rounds = shape 2 rounds true 1 2 (step (source State ∷ source (Table 1 None) ∷ []) ∷ step (source Prev ∷ source (Table 0 None) ∷ []) ∷ [])
+
+abbrev pub links : List Record
+links = pair 1 2 ∷ pair 2 3 ∷ []
+
+-- ---- how many links each key has
+
+abbrev pub count : Value → List (List (List Value)) → List Record
+count (Int k) (s ∷ t ∷ []) = made (Int (add k (pos 10))) (Int (pos (length t)) ∷ []) ∷ []
+count key groups = []
+
+abbrev pub counts : Meaning
+counts = program (λ j. count) odd none
+
+abbrev pub counts_shape : Shape
+counts_shape = shape 2 2 true 1 2 (step (source State ∷ source (Table 1 None) ∷ []) ∷ [])
+
+-- ---- one job, and a table that is read in round 2 only
+
+abbrev pub first : Value → ℕ
+first key = 0
+
+abbrev pub leasts : Meaning
+leasts = program (λ j. least) first none
+
+abbrev pub one_job_shape : Shape
+one_job_shape = shape 1 1 true 1 1 (step (source State ∷ []) ∷ [])
+
+abbrev pub late_shape : Shape
+late_shape = shape 1 3 true 1 2 (step (source State ∷ source (Table 1 (Some 2)) ∷ []) ∷ [])
+
+-- ---- ranks in parts per million
+
+abbrev pub number : List Value → ℤ
+number (Int x ∷ fields) = x
+number fields = pos 0
+
+abbrev pub total : List (List Value) → ℤ
+total [] = pos 0
+total (fields ∷ group) = number fields +ℤ total group
+
+abbrev pub share : Value → List (List (List Value)) → List Record
+share key (ranks ∷ targets ∷ []) = made key (Int (pos 0) ∷ []) ∷ flat_map (λ x. flat_map (λ u. keyed u (Int (int_div (number x *ℤ pos 85) (pos (length targets) *ℤ pos 100)) ∷ [])) targets) ranks
+share key groups = []
+
+abbrev pub summed : Value → List (List (List Value)) → List Record
+summed key (group ∷ []) = made key (Int (pos 150000 +ℤ total group) ∷ []) ∷ []
+summed key groups = []
+
+abbrev pub size : ℤ → ℕ
+size (pos n) = n
+size (negsuc n) = n + 1
+
+abbrev pub moved : Value → List (List Value) → List (List Value) → ℕ
+moved key old new = size (total new +ℤ (negsuc 0 *ℤ total old))
+
+abbrev pub ranks : Meaning
+ranks = program (λ j. if j == 1 then share else summed) first moved
+
+abbrev pub ranks_shape : Shape
+ranks_shape = shape 1 50 false 1400000 2 (step (source State ∷ source (Table 1 None) ∷ []) ∷ step (source Prev ∷ []) ∷ [])

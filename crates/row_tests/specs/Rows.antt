@@ -1,0 +1,27 @@
+-- What the definitions give for worked programs, as they were computed by hand.
+use Rattle.std.specs.Prelude.{◌≡◌, ℕ, List, [], ◌∷◌}
+use Rattle.hal_base.specs.declared.record.Record.{Record}
+use Rattle.hal_base.specs.declared.shape.Shape.{Shape}
+use Rattle.hal_base.specs.Meaning.{Meaning}
+use Rattle.plain_job.specs.Chain.{last_out}
+use Rattle.plain_job.specs.Ends.{Ends, Ending, fixpoint, close, limit, round_distance}
+use Rattle.row_tests.specs.Programs.{pair, hops, hops_shape, links, counts, counts_shape, leasts, one_job_shape, late_shape, ranks, ranks_shape}
+
+-- the chain of a program ends in round n + 1 with this word and these parts
+pub record Gives (m : Meaning) (shape : Shape) (tables : List (List Record)) (n : ℕ) (word : Ending) (parts : List (List Record)) : Type 0 where
+  pub ends : Ends m shape tables n word
+  pub out : last_out m shape tables n ≡ parts
+
+pub record WorkedRows : Type 0 where
+  pub distances_by_hops : Gives hops (hops_shape 20) ((pair 1 0 ∷ []) ∷ links ∷ []) 2 fixpoint ((pair 2 1 ∷ []) ∷ (pair 1 0 ∷ pair 3 2 ∷ []) ∷ [])
+  pub empty_start : Gives hops (hops_shape 20) ([] ∷ links ∷ []) 1 fixpoint ([] ∷ [] ∷ [])
+  pub one_round : Gives hops (hops_shape 1) ((pair 1 0 ∷ []) ∷ links ∷ []) 0 limit ((pair 2 1 ∷ []) ∷ (pair 1 0 ∷ []) ∷ [])
+  pub counted_links : Gives counts counts_shape ((pair 9 0 ∷ []) ∷ (pair 1 2 ∷ pair 1 3 ∷ pair 4 1 ∷ []) ∷ []) 1 limit ((pair 14 1 ∷ pair 24 0 ∷ []) ∷ (pair 11 2 ∷ pair 21 0 ∷ pair 29 0 ∷ []) ∷ [])
+  pub counted_distance : round_distance counts counts_shape ((pair 9 0 ∷ []) ∷ (pair 1 2 ∷ pair 1 3 ∷ pair 4 1 ∷ []) ∷ []) 1 ≡ 4
+  pub one_job : Gives leasts one_job_shape ((pair 2 7 ∷ pair 1 5 ∷ pair 2 3 ∷ []) ∷ []) 0 limit ((pair 1 5 ∷ pair 2 3 ∷ []) ∷ [])
+  pub late_table : Gives leasts late_shape ((pair 1 9 ∷ []) ∷ (pair 1 4 ∷ []) ∷ []) 2 fixpoint ((pair 1 4 ∷ []) ∷ [])
+  pub ranks_first : last_out ranks ranks_shape ((pair 1 1000000 ∷ pair 2 0 ∷ []) ∷ (pair 1 2 ∷ pair 2 1 ∷ []) ∷ []) 0 ≡ (pair 1 150000 ∷ pair 2 1000000 ∷ []) ∷ []
+  pub ranks_second : last_out ranks ranks_shape ((pair 1 1000000 ∷ pair 2 0 ∷ []) ∷ (pair 1 2 ∷ pair 2 1 ∷ []) ∷ []) 1 ≡ (pair 1 1000000 ∷ pair 2 277500 ∷ []) ∷ []
+  pub ranks_distance : round_distance ranks ranks_shape ((pair 1 1000000 ∷ pair 2 0 ∷ []) ∷ (pair 1 2 ∷ pair 2 1 ∷ []) ∷ []) 1 ≡ 1572500
+  pub ranks_last_distance : round_distance ranks ranks_shape ((pair 1 1000000 ∷ pair 2 0 ∷ []) ∷ (pair 1 2 ∷ pair 2 1 ∷ []) ∷ []) 2 ≡ 1336625
+  pub ranks_end : Gives ranks ranks_shape ((pair 1 1000000 ∷ pair 2 0 ∷ []) ∷ (pair 1 2 ∷ pair 2 1 ∷ []) ∷ []) 2 close ((pair 1 385875 ∷ pair 2 1000000 ∷ []) ∷ [])

@@ -1,0 +1,10 @@
+//! Worked rows and vectors over the public calls of the crates below; a crate for tests alone.
+#![tactic(auto)]
+
+#[cfg(test)]
+mod base_tests;
+#[cfg(test)]
+mod failing;
+pub mod rows;
+#[cfg(test)]
+mod top_tests;

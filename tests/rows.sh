@@ -1,0 +1,490 @@
+#!/usr/bin/env bash
+# Drives the built program through worked rows, each in a folder of its own, and compares its status, its
+# standard output and the bytes of the files that it leaves. Prints a line for each row; the status is 0
+# only where none failed. Texts are written as `printf %b` reads them.
+
+set -u
+# Texts are bytes here.
+export LC_ALL=C
+
+top=$(dirname -- "$(dirname -- "$(readlink -f -- "${BASH_SOURCE[0]}")")")
+haloop=$top/bin/haloop
+
+work=$(mktemp -d) || exit 1
+trap 'cd / && rm -rf "$work"' EXIT
+trap 'exit 1' HUP INT TERM
+
+passed=0
+failed=0
+row=
+
+# Ends the row before, and begins one in a fresh folder that holds an accepted program, schedule and table.
+row() {
+    end_row
+    row=$1
+    wrong=
+    cd "$work" && rm -rf row && mkdir row && cd row || exit 1
+    form
+    put s.txt 'nodes 1\n'
+    put t.tsv '2\t7\n1\t5\n2\t3\n'
+}
+
+end_row() {
+    [ -n "$row" ] || return 0
+    if [ -z "$wrong" ]; then
+        passed=$((passed + 1))
+        echo "ok $row"
+    else
+        failed=$((failed + 1))
+        echo "FAILED $row: $wrong"
+    fi
+}
+
+# put FILE TEXT
+put() {
+    printf '%b' "$2" >"$1"
+}
+
+form_lines=(
+    'program least;'
+    'parts 1;'
+    'rounds 1;'
+    'stop exact;'
+    'table t "t.tsv" (int, int);'
+    'begin t;'
+    'step { state by same; reduce least; }'
+)
+
+# form [NUMBER TEXT ..]: the accepted program, where TEXT, with its own line end, is in place of that line.
+form() {
+    local lines=("${form_lines[@]/%/\\n}")
+    while [ $# -gt 0 ]; do
+        lines[$1 - 1]=$2
+        shift 2
+    done
+    local IFS=
+    put p.hal "${lines[*]}"
+}
+
+# call WORDS ..: runs the program.
+call() {
+    "$haloop" "$@" >"$work/said"
+    status=$?
+}
+
+job() {
+    call run p.hal s.txt out
+}
+
+# Adds to what is wrong with the row.
+is_wrong() {
+    wrong=${wrong:+$wrong; }$1
+}
+
+# wants_same FILE TEXT WHAT
+wants_same() {
+    if ! printf '%b' "$2" | cmp -s - "$1"; then
+        is_wrong "$3 is $(od -An -c "$1" | head -n 4 | tr -s ' \n' ' ')"
+    fi
+}
+
+wants_status() {
+    [ "$status" -eq "$1" ] || is_wrong "status $status in place of $1"
+}
+
+# wants STATUS TEXT: what the last call ended with and wrote to the standard output.
+wants() {
+    wants_status "$1"
+    wants_same "$work/said" "$2" 'standard output'
+}
+
+# wants_file FILE TEXT
+wants_file() {
+    if [ -f "$1" ]; then
+        wants_same "$1" "$2" "$1"
+    else
+        is_wrong "no file $1"
+    fi
+}
+
+# wants_none PATH
+wants_none() {
+    [ ! -e "$1" ] || is_wrong "$1 is there"
+}
+
+report='rounds 1\nend limit\n'
+usage='error: usage: haloop run PROGRAM SCHEDULE OUT [journal=FILE] | plain PROGRAM OUT | check PROGRAM | demo N SEED\n'
+not_built='error: form not built\n'
+device='error: device\n'
+
+# part TEXT: the job is done, and this is its part file.
+part() {
+    job
+    wants 0 "$report"
+    wants_file out/part-00000 "$1"
+}
+
+# refused: the job is not done, since an input is of another form.
+refused() {
+    job
+    wants 12 "$not_built"
+    wants_none out
+}
+
+# absent FILE: the job is not done, since this file is not there.
+absent() {
+    job
+    wants 11 "error: file $1 absent\n"
+    wants_none out
+}
+
+# at_device: the job is not done, since a device failed.
+at_device() {
+    job
+    wants 8 "$device"
+}
+
+least='1\t5\n2\t3\n'
+
+# The first call builds the program where needed, and says on the standard error how far it is.
+call
+if [ ! -s "$work/said" ]; then
+    echo "rows.sh: $haloop gives no program (status $status)" >&2
+    exit 1
+fi
+
+row 'one job'
+part "$least"
+
+row 'the example'
+cp -r "$top/examples" .
+call run examples/one-job/least.hal examples/one-job/one-node.txt out
+wants 0 "$report"
+wants_file out/part-00000 '1\t-5\n2\t6\n3\t11\n10\t20\n12\t3\n'
+
+# accepted_table NAME TABLE PART
+accepted_table() {
+    row "table: $1"
+    put t.tsv "$2"
+    part "$3"
+}
+
+accepted_table 'empty' '' ''
+accepted_table 'CR LF, and no line end at the last line' '2\t7\r\n1\t5\r\n2\t3' "$least"
+accepted_table 'CR and no LF at the last line' '2\t7\n1\t5\n2\t3\r' "$least"
+accepted_table 'one record' '0\t0\n' '0\t0\n'
+accepted_table 'one record many times' '4\t-4\n4\t-4\n4\t-4\n' '4\t-4\n'
+accepted_table 'numbers by value' \
+    '9223372036854775807\t-9223372036854775808\n10\t1\n9\t10\n9\t9\n-9\t-1\n-9\t-2\n0\t0\n-10\t0\n-9223372036854775808\t9223372036854775807\n' \
+    '-9223372036854775808\t9223372036854775807\n-10\t0\n-9\t-2\n0\t0\n9\t9\n10\t1\n9223372036854775807\t-9223372036854775808\n'
+
+# refused_table NAME TABLE
+refused_table() {
+    row "table: $1"
+    put t.tsv "$2"
+    refused
+}
+
+# Each spelling that is no number, as the key and as the field.
+while IFS='|' read -r name piece; do
+    refused_table "$name as the key" "1\t5\n$piece\t7\n2\t3\n"
+    refused_table "$name as the field" "1\t5\n7\t$piece\n2\t3\n"
+done <<'END'
++5|+5
+007|007
+00|00
+-0|-0
+-07|-07
+--1|--1
+a lone -|-
+an empty piece|
+a blank in front|\00405
+a blank behind|5\040
+a number above 64 bits|9223372036854775808
+a number below 64 bits|-9223372036854775809
+a number of 30 digits|100000000000000000000000000000
+a letter|5x
+a hexadecimal number|0x5
+a decimal point|5.0
+a NUL byte|5\0000
+a NUL byte alone|\0000
+bytes that are no UTF-8|\0377\0376
+digits that are no ASCII|\0331\0245
+a CR within|5\r5
+END
+
+refused_table 'one piece' '1\t5\n2\n'
+refused_table 'three pieces' '1\t5\n2\t3\t4\n'
+refused_table 'three pieces, the last empty' '1\t5\n2\t3\t\n'
+refused_table 'a blank for the tab' '1\t5\n2 3\n'
+refused_table 'an empty line in the middle' '1\t5\n\n2\t3\n'
+refused_table 'an empty line at the end' '1\t5\n\n'
+refused_table 'an empty line alone' '\n'
+refused_table 'CR LF alone' '\r\n'
+refused_table 'CR CR LF' '1\t5\r\r\n'
+refused_table 'the first line is wrong' 'x\t5\n1\t5\n'
+refused_table 'the last line is wrong and has no end' '1\t5\n2'
+
+# refused_schedule NAME TEXT
+refused_schedule() {
+    row "schedule: $1"
+    put s.txt "$2"
+    refused
+}
+
+refused_schedule 'nodes 2' 'nodes 2\n'
+refused_schedule 'empty' ''
+refused_schedule 'no line end' 'nodes 1'
+refused_schedule 'CR LF' 'nodes 1\r\n'
+refused_schedule 'another line' 'nodes 1\n\n'
+refused_schedule 'two blanks' 'nodes  1\n'
+
+# refused_form NAME NUMBER TEXT: another line in the program.
+refused_form() {
+    row "program: $1"
+    form "$2" "$3"
+    refused
+}
+
+for number in 1 2 3 4 5 6 7; do
+    line=${form_lines[number - 1]}
+    refused_form "no line $number" "$number" ''
+    refused_form "line $number twice" "$number" "$line\n$line\n"
+    refused_form "CR LF at line $number" "$number" "$line\r\n"
+    refused_form "no LF at line $number" "$number" "$line"
+    refused_form "a blank is missing at line $number" "$number" "${line/ /}\n"
+    refused_form "two blanks at line $number" "$number" "${line/ /  }\n"
+    refused_form "a tab for the blank at line $number" "$number" "${line/ /\\t}\n"
+    refused_form "a blank in front of line $number" "$number" " $line\n"
+    refused_form "a blank behind line $number" "$number" "$line \n"
+    refused_form "no last byte at line $number" "$number" "${line%?}\n"
+    refused_form "a capital letter at line $number" "$number" "${line^}\n"
+done
+
+name_31=a_1234567890_1234567890_1234567
+name_32=${name_31}8
+file_256=$(printf 'f%.0s' {1..256})
+
+# Each name that is none, of the program and of the table.
+while IFS='|' read -r name word; do
+    row "program: $name as a name"
+    form 1 "program $word;\n"
+    refused
+    form 5 "table $word \"t.tsv\" (int, int);\n" 6 "begin $word;\n"
+    refused
+done <<END
+no byte|
+32 bytes|$name_32
+a capital letter|leasT
+a digit in front|1east
+_ in front|_least
+a hyphen|le-ast
+a blank|le ast
+a letter that is no ASCII|\0303\0251
+a NUL byte|a\0000
+END
+
+row 'program: a reserved word as a name'
+for word in program parts rounds stop exact below by cache reducer_input reducer_output mapper_input table begin \
+    step state prev round reduce map distance partition let set if else for in emit give int text; do
+    form 1 "program $word;\n"
+    refused
+    form 5 "table $word \"t.tsv\" (int, int);\n" 6 "begin $word;\n"
+    refused
+done
+
+while IFS='|' read -r name number line; do
+    refused_form "$name" "$number" "$line\n"
+done <<END
+another first word|1|programs least;
+parts 2|2|parts 2;
+parts 0|2|parts 0;
+parts 01|2|parts 01;
+another word for parts|2|part 1;
+rounds 2|3|rounds 2;
+rounds 0|3|rounds 0;
+another word for rounds|3|round 1;
+another stop|4|stop below 1;
+another word for exact|4|stop exactly;
+another word for table|5|tables t "t.tsv" (int, int);
+another table at the beginning|6|begin u;
+a longer table at the beginning|6|begin tt;
+another word for begin|6|start t;
+a text as the key|5|table t "t.tsv" (text, int);
+a text as the field|5|table t "t.tsv" (int, text);
+one kind|5|table t "t.tsv" (int);
+three kinds|5|table t "t.tsv" (int, int, int);
+no blank between the kinds|5|table t "t.tsv" (int,int);
+a file name with no byte|5|table t "" (int, int);
+a file name of 256 bytes|5|table t "$file_256" (int, int);
+a file name with a backslash|5|table t "t\\\\.tsv" (int, int);
+a file name with a quotation mark|5|table t "t"t.tsv" (int, int);
+a file name with a tab|5|table t "t\t.tsv" (int, int);
+a file name with DEL|5|table t "t\0177.tsv" (int, int);
+a file name that is no ASCII|5|table t "\0303\0251.tsv" (int, int);
+a file name with no quotation marks|5|table t t.tsv (int, int);
+another map|7|step { state by other; reduce least; }
+another reduce|7|step { state by same; reduce greatest; }
+another source|7|step { prev by same; reduce least; }
+two sources|7|step { state by same; state by same; reduce least; }
+END
+
+row 'program: empty'
+put p.hal ''
+refused
+
+row 'program: an empty line at the end'
+form 7 "${form_lines[6]}\n\n"
+refused
+
+row 'program: a NUL byte at the end'
+form 7 "${form_lines[6]}\n\0000"
+refused
+
+row 'program: names of 31 bytes'
+form 1 "program $name_31;\n" 5 "table $name_31 \"t.tsv\" (int, int);\n" 6 "begin $name_31;\n"
+part "$least"
+
+row 'program: names that only begin with a reserved word'
+form 1 'program programs;\n' 5 'table in1 "t.tsv" (int, int);\n' 6 'begin in1;\n'
+part "$least"
+
+# accepted_file NAME FILE
+accepted_file() {
+    row "program: $1"
+    [ "$2" = t.tsv ] || mv t.tsv "$2"
+    form 5 "table t \"$2\" (int, int);\n"
+    part "$least"
+}
+
+accepted_file 'a file name of 1 byte' t
+accepted_file 'a file name of 200 bytes with blanks' "$(printf 'a b %.0s' {1..50})"
+accepted_file 'a file name with marks' "~!#\$%&'()*+,-.:;<=>?@[]^_{|}"
+
+row 'program: a file name of 255 bytes, in a folder'
+folder=${file_256:0:127}
+mkdir "$folder"
+mv t.tsv "$folder/$folder"
+form 5 "table t \"$folder/$folder\" (int, int);\n"
+part "$least"
+
+# usage_row NAME WORDS ..
+usage_row() {
+    row "words: $1"
+    shift
+    call "$@"
+    wants 1 "$usage"
+    wants_none out
+}
+
+usage_row none
+usage_row 'run p' run p
+usage_row 'run alone' run
+usage_row 'three words' run p.hal s.txt
+usage_row 'five words' run p.hal s.txt out more
+usage_row 'an empty program' run '' s.txt out
+usage_row 'an empty schedule' run p.hal '' out
+usage_row 'an empty folder' run p.hal s.txt ''
+usage_row 'an empty command' '' p.hal s.txt out
+usage_row 'another command' walk p.hal s.txt out
+usage_row 'a capital letter' Run p.hal s.txt out
+usage_row 'a longer command' runs p.hal s.txt out
+
+row 'absent program'
+rm p.hal
+absent p.hal
+
+row 'absent schedule'
+rm s.txt
+absent s.txt
+
+row 'absent table'
+rm t.tsv
+absent t.tsv
+
+row 'absent program and schedule'
+rm p.hal s.txt t.tsv
+absent p.hal
+
+row 'absent schedule and table'
+rm s.txt t.tsv
+absent s.txt
+
+row 'program of another form before an absent schedule'
+form 2 'parts 2;\n'
+rm s.txt
+refused
+
+row 'schedule of another form before an absent table'
+put s.txt 'nodes 2\n'
+rm t.tsv
+refused
+
+row 'an absent schedule before a table of another form'
+rm s.txt
+put t.tsv 'x\n'
+absent s.txt
+
+for file in p.hal s.txt t.tsv; do
+    row "a folder in place of $file"
+    rm "$file"
+    mkdir "$file"
+    at_device
+    wants_none out
+done
+
+row 'a file in place of the folder'
+put out 'old\n'
+at_device
+wants_file out 'old\n'
+
+row 'a folder in place of the part file'
+mkdir -p out/part-00000
+at_device
+[ -d out/part-00000 ] || is_wrong 'out/part-00000 is gone'
+
+row 'a folder within folders'
+call run p.hal s.txt a/b/c
+wants 0 "$report"
+wants_file a/b/c/part-00000 "$least"
+
+row 'a folder that ends with a slash'
+call run p.hal s.txt out/
+wants 0 "$report"
+wants_file out/part-00000 "$least"
+
+row 'files that lay in the folder'
+mkdir out
+put out/part-00000 '1\t1\n2\t2\n3\t3\n4\t4\n5\t5\n'
+put out/part-00001 'old'
+part "$least"
+wants_file out/part-00001 'old'
+
+row 'a refused job leaves the files in the folder'
+mkdir out
+put out/part-00000 'old'
+put t.tsv 'x\n'
+job
+wants 12 "$not_built"
+wants_file out/part-00000 'old'
+
+row 'standard output closed'
+"$haloop" run p.hal s.txt out >&-
+status=$?
+wants_status 8
+wants_file out/part-00000 "$least"
+
+row 'standard output full'
+"$haloop" run p.hal s.txt out >/dev/full
+status=$?
+wants_status 8
+wants_file out/part-00000 "$least"
+
+row 'standard output closed, and no command'
+"$haloop" >&-
+status=$?
+wants_status 8
+
+end_row
+echo "$passed passed, $failed failed"
+[ "$failed" -eq 0 ]
