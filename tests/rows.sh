@@ -390,6 +390,11 @@ usage_row 'another command' walk p.hal s.txt out
 usage_row 'a capital letter' Run p.hal s.txt out
 usage_row 'a longer command' runs p.hal s.txt out
 
+row 'words: one that is no UTF-8'
+call run $'\377' s.txt out
+wants 8 ''
+wants_none out
+
 row 'absent program'
 rm p.hal
 absent p.hal
@@ -432,6 +437,11 @@ for file in p.hal s.txt t.tsv; do
     at_device
     wants_none out
 done
+
+row 'a path that leads through a file'
+call run s.txt/p.hal s.txt out
+wants 8 "$device"
+wants_none out
 
 row 'a file in place of the folder'
 put out 'old\n'

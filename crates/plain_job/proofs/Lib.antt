@@ -1,3 +1,5 @@
+pub mod Begins
 pub mod Keeps
 pub mod Keys
 pub mod Parted
+pub mod Tables

@@ -3,9 +3,13 @@
 
 ghost use Rattle.plain_job.specs.Laws.{PartsMakeTheJob, SortingKeepsTheJob};
 
+mod chain;
+mod distance;
 mod insertion;
 mod plain;
+mod round;
 
+pub use chain::{End, PlainChain, plain_chain};
 pub use plain::{group_of, keys_of, plain_part, plain_stream};
 
 /// The job of a part is the job of the streams' records of that part.
