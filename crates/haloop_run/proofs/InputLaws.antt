@@ -1,5 +1,5 @@
 -- What the files hold, read one after another.
-use Rattle.std.proofs.Common.{◌≡◌, ◌≢◌, ℕ, ◌⊎◌, List, Option, None, Some, refl, sym, ap, subst, ◌∙◌, inl, inr}
+use Rattle.std.proofs.Common.{◌≡◌, ℕ, List, Option, None, Some, sym, subst, ◌∙◌, inr}
 use Rattle.std.specs.Option.{IfSome}
 use Rattle.std.specs.FinMap as map
 use Rattle.hal_base.specs.declared.record.Record.{Record}
@@ -9,7 +9,7 @@ use Rattle.haloop_run.specs.declared.refusal.Refusal.{Refusal}
 use Rattle.haloop_run.specs.declared.refusal.Refusal.TheVariants as refusal
 use Rattle.haloop_run.specs.Words.{Asked}
 use Rattle.haloop_run.specs.Form.{Form, IsForm}
-use Rattle.haloop_run.specs.Inputs.{pairs, HasProgram, HasSchedule, HasTable, IsAccepted, FirstAbsent, FirstRefused}
+use Rattle.haloop_run.specs.Inputs.{pairs, HasProgram, HasSchedule, FirstAbsent, FirstRefused}
 use Rattle.haloop_run.specs.Steps.{Refused}
 
 -- the program is of the form, and its table's file has this name

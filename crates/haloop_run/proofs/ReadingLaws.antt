@@ -1,16 +1,16 @@
 -- The text of the form and how it is read.
-use Rattle.std.proofs.Common.{◌≡◌, ◌≢◌, ℕ, zero, suc, ◌+◌, ◌<◌, ◌≤◌, Bool, true, false, cond, not, ◌&&◌, nat_eq, nat_le, List, [], ◌∷◌, ◌++◌, Option, None, Some, refl, sym, ap, subst, ◌∙◌, length, take, drop, get_or, arith, append_assoc, codes}
-use Rattle.std.specs.List.{AllByRecursion, list_all}
+use Rattle.std.proofs.Common.{◌≡◌, ℕ, zero, suc, ◌<◌, ◌≤◌, Bool, true, false, cond, ◌&&◌, nat_eq, nat_le, List, [], ◌∷◌, ◌++◌, Option, None, Some, refl, sym, ap, subst, ◌∙◌, length, take, drop, get_or, arith, append_assoc, codes}
+use Rattle.std.specs.List.{list_all}
 use Rattle.std.specs.Str.{bytes_eq, IsAscii, IsUtf8}
 use Rattle.std.proofs.lemmas.Str.{IsUtf8-from_ascii}
 use Rattle.std.proofs.lemmas.Str.Ascii.{IsAscii-nil, IsAscii-cons}
 use Rattle.std.proofs.lemmas.Bool.Decides.{nat_tests}
-use Rattle.std.proofs.lemmas.Bool.{eqb-false, eqb-true}
+use Rattle.std.proofs.lemmas.Bool.{eqb-true}
 use Rattle.std.proofs.lemmas.Slice.Eq.{bytes_eq-Decides}
 use Rattle.std.proofs.lemmas.List.{take-append-drop}
 use Rattle.std.proofs.Math.Seq.{drop-append_seam, take-append_seam}
 use Rattle.hal_base.proofs.Cuts.{is_false, NoneBefore, later, first, Without}
-use Rattle.haloop_run.specs.Form.{Form, IsForm, form_text, is_name, is_name_byte, is_file, is_file_byte, begins_lower, reserved}
+use Rattle.haloop_run.specs.Form.{Form, IsForm, form_text, is_name, is_name_byte, is_file, is_file_byte}
 use Rattle.haloop_run.specs.FormReading.{◌>>=◌, after, cut_at, onto_front, file_of}
 
 pub cut_first : (c : ℕ) (bytes : List ℕ) (at : ℕ) → at < length bytes → NoneBefore c bytes at → nat_eq (get_or bytes at 0) c ≡ true → cut_at c bytes ≡ Some (take at bytes, drop (suc at) bytes)

@@ -1,5 +1,5 @@
 -- From what a call came to and said, the causes of each status.
-use Rattle.std.proofs.Common.{◌≡◌, ◌≢◌, ℕ, ◌+◌, ◌<◌, ◌≤◌, ◌⊎◌, List, [], ◌∷◌, ◌++◌, Option, None, Some, Result, Ok, Err, refl, sym, ap, subst, ◌∙◌, inl, inr, length, take, arith, codes}
+use Rattle.std.proofs.Common.{◌≡◌, ◌≢◌, ℕ, ◌⊎◌, List, ◌++◌, Option, None, Some, Result, Ok, Err, refl, sym, ap, subst, ◌∙◌, inl, inr, length, arith}
 use Rattle.std.specs.Option.{IfSome}
 use Rattle.std.specs.FinMap as map
 use Rattle.std.proofs.Math.Seq.{take-length}
@@ -8,10 +8,10 @@ use Rattle.hal_base.specs.Lines.{StandsFor}
 use Rattle.hal_outside.specs.Told.{FileMap, AfterFailedAppend}
 use Rattle.haloop_run.specs.declared.refusal.Refusal.{Refusal}
 use Rattle.haloop_run.specs.declared.refusal.Refusal.TheVariants as refusal
-use Rattle.haloop_run.specs.Words.{Asked, IsRun, IsUsage}
+use Rattle.haloop_run.specs.Words.{Asked, IsRun}
 use Rattle.haloop_run.specs.Form.{Form, IsForm, schedule_text}
 use Rattle.haloop_run.specs.FormReading.{file_of}
-use Rattle.haloop_run.specs.Inputs.{pairs, HasProgram, HasSchedule, IsAccepted, FirstAbsent, FirstRefused}
+use Rattle.haloop_run.specs.Inputs.{pairs, HasProgram, IsAccepted, FirstAbsent, FirstRefused}
 use Rattle.haloop_run.specs.Outputs.{IsDue, Gained, GainedDue, Leaves, LeavesPart, LeavesSome, OnTold, part_name, report, usage_line, absent_line, not_built_line, device_line, memory_line}
 use Rattle.haloop_run.specs.Steps.{Said, SaidPart, Came, Answered}
 use Rattle.haloop_run.specs.Statuses.{Answers}

@@ -1,5 +1,5 @@
 -- The words of `run`.
-use Rattle.std.proofs.Common.{◌≡◌, ◌≢◌, ℕ, ◌<◌, ◌≤◌, List, [], ◌∷◌, Option, None, Some, refl, sym, ap, ◌∙◌, length, get_or, arith, codes}
+use Rattle.std.proofs.Common.{◌≡◌, ℕ, ◌<◌, ◌≤◌, List, [], ◌∷◌, Option, None, Some, sym, ap, ◌∙◌, length, get_or, arith, codes}
 use Rattle.std.specs.Option.{IfSome}
 use Rattle.haloop_run.specs.declared.words.Run.{Run}
 use Rattle.haloop_run.specs.Words.{Asked, IsRun}

@@ -1,5 +1,5 @@
 -- The laws of the form's functions.
-use Rattle.std.specs.Prelude.{◌≡◌, true, List, [], ◌∷◌, Option, None, Some, refl}
+use Rattle.std.specs.Prelude.{◌≡◌, List, Option, None, Some, refl}
 use Rattle.std.specs.List.{AllByRecursion, flat_map}
 use Rattle.std.proofs.Common.{ap}
 use Rattle.hal_base.specs.declared.value.Value.{Value}

@@ -1,5 +1,5 @@
 -- How a program's text is read, from the left, for the contracts of the steps alone.
-use Rattle.std.specs.Prelude.{ℕ, Bool, true, ◌&&◌, ◌==◌, cond, List, [], ◌∷◌, Option, None, Some, length, take, drop, codes}
+use Rattle.std.specs.Prelude.{ℕ, ◌&&◌, ◌==◌, cond, List, [], ◌∷◌, Option, None, Some, length, take, drop, codes}
 use Rattle.std.specs.Borrow.{Bor}
 use Rattle.std.specs.Str.{bytes_eq}
 use Rattle.haloop_run.specs.Form.{is_name, is_file}

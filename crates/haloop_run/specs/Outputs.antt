@@ -2,13 +2,12 @@
 use Rattle.std.specs.Prelude.{◌≡◌, ℕ, true, false, ◌⊎◌, List, [], ◌∷◌, ◌++◌, Option, None, Some, IfSome, codes, take}
 use Rattle.std.specs.FinMap as map
 use Rattle.std.specs.Option.{option_map}
-use Rattle.hal_base.specs.declared.value.Value.{Value}
 use Rattle.hal_base.specs.declared.record.Record.{Record}
 use Rattle.hal_base.specs.declared.shape.Origin.TheVariants as origin
 use Rattle.hal_base.specs.declared.shape.Shape.{Shape}
 use Rattle.hal_base.specs.Meaning.{Meaning}
 use Rattle.hal_outside.specs.Told.{FileMap, AfterFailedAppend}
-use Rattle.plain_job.specs.Ends.{IsChain, Ending, limit}
+use Rattle.plain_job.specs.Ends.{IsChain, limit}
 use Rattle.plain_job.specs.Predefined.{same, least}
 use Rattle.haloop_run.specs.Words.{Asked, IsRun, IsUsage}
 use Rattle.haloop_run.specs.Form.{Form}

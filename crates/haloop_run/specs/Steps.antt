@@ -1,5 +1,5 @@
 -- What the steps of a run find and leave, for their contracts alone.
-use Rattle.std.specs.Prelude.{◌≡◌, ℕ, ◌⊎◌, List, Option, None, Some, IfSome, Result, Ok, Err}
+use Rattle.std.specs.Prelude.{◌≡◌, ℕ, ◌⊎◌, List, Option, IfSome, Result, Ok, Err}
 use Rattle.hal_outside.specs.Told.{FileMap, AfterFailedAppend}
 use Rattle.haloop_run.specs.declared.refusal.Refusal.{Refusal}
 use Rattle.haloop_run.specs.declared.refusal.Refusal.TheVariants as refusal

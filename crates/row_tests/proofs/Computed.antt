@@ -1,10 +1,10 @@
 -- The worked rows, computed from the definitions.
-use Rattle.std.proofs.Common.{◌≡◌, ℕ, zero, suc, ◌+◌, ◌<◌, ◌≤◌, List, [], ◌∷◌, refl, arith, lit≤, lit<}
+use Rattle.std.proofs.Common.{◌≡◌, ℕ, zero, suc, ◌<◌, ◌≤◌, List, [], ◌∷◌, refl, arith, lit≤, lit<}
 use Rattle.hal_base.specs.declared.record.Record.{Record}
 use Rattle.hal_base.specs.declared.shape.Shape.{Shape}
 use Rattle.hal_base.specs.Meaning.{Meaning}
 use Rattle.plain_job.specs.Chain.{last_out}
-use Rattle.plain_job.specs.Ends.{Ends, EndsBy, Ending, fixpoint, close, limit, round_distance}
+use Rattle.plain_job.specs.Ends.{EndsBy, Ending, fixpoint, close, limit, round_distance}
 use Rattle.row_tests.specs.Programs.{pair, hops, hops_shape, links, counts, counts_shape, leasts, one_job_shape, late_shape, ranks, ranks_shape}
 use Rattle.row_tests.specs.Rows.{Gives, WorkedRows}
 

@@ -1,5 +1,5 @@
 -- Small worked programs, as shapes, meanings and tables.
-use Rattle.std.specs.Prelude.{◌≡◌, ℕ, ◌+◌, ◌%◌, ◌==◌, ℤ, pos, negsuc, ◌+ℤ◌, ◌*ℤ◌, int_div, Bool, true, false, List, [], ◌∷◌, Option, None, Some, map, length, if◌then◌else◌}
+use Rattle.std.specs.Prelude.{ℕ, ◌+◌, ◌%◌, ◌==◌, ℤ, pos, negsuc, ◌+ℤ◌, ◌*ℤ◌, int_div, Bool, true, false, List, [], ◌∷◌, None, Some, length, if◌then◌else◌}
 use Rattle.std.specs.List.{flat_map}
 use Rattle.hal_base.specs.declared.value.Kind.TheVariants as kind
 use Rattle.hal_base.specs.declared.value.Value.{Value}

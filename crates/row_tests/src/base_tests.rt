@@ -1,25 +1,10 @@
 // Vectors for the values, lines and tables.
+use crate::samples::{pair, schema_of};
 use hal_base::{
-    CopyIn, Fields, Items, Kind, Kinds, LineFault, Memory, Record, Records, Schema, TableFault,
-    Text, Value, compare, compare_rows, lines, read_line, read_table, sort_rows, write_line,
+    CopyIn, Items, Kind, LineFault, Records, TableFault, Text, Value, compare, compare_rows, lines,
+    read_line, read_table, sort_rows, write_line,
 };
-use std::alloc::Global;
 use std::test::Fail;
-
-fn schema_of(alloc: Global, key: Kind, field: Kind) -> Result<Schema, Memory> {
-    let mut fields = Kinds::new(alloc);
-    fields.push(field)?;
-    Ok(Schema { key, fields })
-}
-
-fn pair(alloc: Global, key: i64, field: i64) -> Result<Record, Memory> {
-    let mut fields = Fields::new(alloc);
-    fields.push(Value::Int(field))?;
-    Ok(Record {
-        key: Value::Int(key),
-        fields,
-    })
-}
 
 #[test]
 fn lines_are_read_and_written(rt: HostRuntime) -> Result<(), Fail> {

@@ -4,7 +4,13 @@
 #[cfg(test)]
 mod base_tests;
 #[cfg(test)]
+mod chain_tests;
+#[cfg(test)]
 mod failing;
+#[cfg(test)]
+mod keys_alone;
 pub mod rows;
+#[cfg(test)]
+mod samples;
 #[cfg(test)]
 mod top_tests;

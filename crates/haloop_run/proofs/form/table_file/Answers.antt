@@ -1,6 +1,5 @@
-use Rattle.std.proofs.Common.{◌≡◌, sym, ap, subst, ◌∙◌, List, ℕ, Some, None}
+use Rattle.std.proofs.Common.{◌≡◌, sym, subst, ◌∙◌, List, ℕ}
 use Rattle.std.specs.Str.{IsUtf8}
-use Rattle.haloop_run.specs.FormReading.{file_of}
 use Rattle.haloop_run.proofs.ReadingLaws.{takes, again, is_text}
 use Rattle.haloop_run.proofs.form.table_file.Goals as goal
 

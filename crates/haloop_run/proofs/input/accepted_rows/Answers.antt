@@ -1,6 +1,5 @@
-use Rattle.std.proofs.Common.{◌≡◌, ap, sym, ◌∙◌, inl, inr, arith, ◌<◌, ◌≤◌}
+use Rattle.std.proofs.Common.{arith}
 use Rattle.std.proofs.lemmas.Result.{IfErr-weaker}
-use Rattle.hal_outside.specs.Told.{Rose}
 use Rattle.hal_outside.proofs.Counts.{rose_before}
 use Rattle.haloop_run.specs.Texts.{asked_by}
 use Rattle.haloop_run.proofs.InputLaws.{last_refused_later}

@@ -1,4 +1,4 @@
-use Rattle.std.proofs.Common.{◌≡◌, List, ℕ, ◌∙◌, subst}
+use Rattle.std.proofs.Common.{List, ℕ, ◌∙◌, subst}
 use Rattle.hal_outside.specs.Told.{Rose}
 use Rattle.haloop_run.specs.Steps.{Said}
 use Rattle.haloop_run.proofs.TopLaws.{said_memory}

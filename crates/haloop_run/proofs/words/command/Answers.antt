@@ -1,4 +1,4 @@
-use Rattle.std.proofs.Common.{rules, ◌≡◌, ◌∷◌, [], List, ℕ, sym, ap, ◌∙◌, codes}
+use Rattle.std.proofs.Common.{rules, ◌≡◌, ap, ◌∙◌, codes}
 use Rattle.haloop_run.specs.Texts.{texts}
 use Rattle.haloop_run.proofs.WordLaws.{four, named}
 use Rattle.haloop_run.proofs.words.command.Goals as goal
