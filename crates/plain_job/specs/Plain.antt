@@ -1,6 +1,9 @@
--- What the plain chain of the program leaves, for its contracts alone.
-use Rattle.std.specs.Prelude.{◌≡◌, ℕ, suc, ◌<◌, ◌≤◌, Bool, true, false, List}
+-- What the plain chain of the program needs and leaves, for its contracts alone.
+use Rattle.std.specs.Prelude.{◌≡◌, ℕ, suc, ◌<◌, ◌≤◌, Bool, true, false, List, length}
+use Rattle.std.specs.List.{AllByRecursion}
 use Rattle.hal_base.specs.declared.record.Record.{Record}
+use Rattle.hal_base.specs.declared.shape.Source.{Source}
+use Rattle.hal_base.specs.declared.shape.Step.{Step}
 use Rattle.hal_base.specs.declared.shape.Shape.{Shape}
 use Rattle.hal_base.specs.Meaning.{Meaning}
 use Rattle.plain_job.specs.declared.chain.End.{End}
@@ -8,6 +11,14 @@ use Rattle.plain_job.specs.declared.chain.End.TheVariants.{Fixpoint, Close, Limi
 use Rattle.plain_job.specs.declared.chain.PlainChain.{PlainChain}
 use Rattle.plain_job.specs.Chain.{last_out}
 use Rattle.plain_job.specs.Ends.{Ending, fixpoint, close, limit, Ends}
+
+-- there are at most eight sources
+abbrev pub FewSources : List Source → Type 0
+FewSources sources = length sources ≤ 8
+
+-- there are at most eight steps, each of which has few sources
+abbrev pub FewSteps : List Step → Type 0
+FewSteps steps = (length steps ≤ 8) × AllByRecursion (λ (step : Step). FewSources step.sources) steps
 
 -- the word of an end
 abbrev pub ending_of : End → Ending

@@ -1,6 +1,6 @@
 ghost use Rattle.std.specs.Prelude.{◌≡◌, ◌≤◌, IfOk};
 ghost use Rattle.plain_job.specs.Ends.{distance};
-ghost use Rattle.plain_job.specs.Plain.{IsNear, IsPlainChain, end_by};
+ghost use Rattle.plain_job.specs.Plain.{FewSteps, IsNear, IsPlainChain, end_by};
 
 use crate::distance::distance_of;
 use crate::round::{round_out, table_at, together};
@@ -25,15 +25,15 @@ pub struct PlainChain {
     pub end: End,
 }
 
-/// The unrolled chain of plain jobs. The answer is `Memory` also where steps or sources are more
-/// than a `u32` counts.
+/// The unrolled chain of plain jobs.
 pub fn plain_chain<F: Functions>(
     alloc: Global,
     functions: &F,
     shape: &Shape,
     tables: &Tables,
 ) -> Result<PlainChain, Memory>
-    requires { 1 ≤ shape.now.rounds }
+    requires rounds { 1 ≤ shape.now.rounds }
+    requires steps { FewSteps shape.now.steps }
     ensures { IfOk result (IsPlainChain (F.meaning functions.now) shape.now tables.now) }
 {
     let rounds = shape.rounds;

@@ -1,6 +1,7 @@
 ghost use Rattle.std.specs.Prelude.{◌≡◌, ◌++◌, [], map, IfOk, OnOk};
 ghost use Rattle.plain_job.specs.Chain as chain;
 ghost use Rattle.plain_job.specs.Chain.{numbers_from, part_out, streams};
+ghost use Rattle.plain_job.specs.Plain.{FewSources, FewSteps};
 
 use crate::plain::{plain_part, plain_stream};
 use hal_base::{CopyIn, Functions, Memory, Origin, Parts, Records, Shape, Sources, Tables};
@@ -14,8 +15,7 @@ struct Inputs<'a> {
     state: &'a Records,
 }
 
-/// The parts that the last step leaves in this round, which begins with this state. The answer is
-/// `Memory` also where steps or sources are more than a `u32` counts.
+/// The parts that the last step leaves in this round, which begins with this state.
 pub(crate) fn round_out<F: Functions>(
     alloc: Global,
     functions: &F,
@@ -24,6 +24,7 @@ pub(crate) fn round_out<F: Functions>(
     round: u32,
     state: &Records,
 ) -> Result<Parts, Memory>
+    requires { FewSteps shape.now.steps }
     ensures { IfOk result (λ out. out ≡ chain.steps_out (F.meaning functions.now) shape.now tables.now round 1 state.now [] shape.now.steps) }
 {
     let inputs = Inputs {
@@ -34,7 +35,7 @@ pub(crate) fn round_out<F: Functions>(
     let mut out = Parts::new(alloc);
     let mut number: u32 = 0;
     'steps: for step in shape.steps.as_slice() {
-        number = number.checked_add(1).ok_or(Memory)?;
+        number += 1;
         let before = together(alloc, &out)?;
         let streams = streams_of(alloc, functions, &inputs, number, &before, &step.sources)?;
         out = all_parts(alloc, functions, round, number, &streams, shape.parts)?;
@@ -69,12 +70,13 @@ fn streams_of<F: Functions>(
     before: &Records,
     sources: &Sources,
 ) -> Result<Parts, Memory>
+    requires { FewSources sources.now }
     ensures { IfOk result (λ found. found ≡ streams (F.meaning functions.now) inputs.now.round step (chain.source_rows inputs.now.tables.now inputs.now.round inputs.now.state.now before.now) 1 sources.now) }
 {
     let mut found = Parts::new(alloc);
     let mut number: u32 = 0;
     'sources: for source in sources.as_slice() {
-        number = number.checked_add(1).ok_or(Memory)?;
+        number += 1;
         let rows = source_rows(alloc, inputs, before, &source.from)?;
         found.push(plain_stream(alloc, functions, inputs.round, step, number, &rows)?)?;
     }

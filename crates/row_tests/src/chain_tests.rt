@@ -1,5 +1,6 @@
 // The plain chain, run over functions that keep the keys alone.
 ghost use Rattle.std.specs.Prelude.{◌≡◌, IfOk};
+ghost use Rattle.plain_job.specs.Plain.{FewSteps};
 
 use crate::keys_alone::KeysAlone;
 use crate::samples::{pair, schema_of};
@@ -16,6 +17,7 @@ const LETTER: [u8; 1] = [b'b'];
 /// One step over the state, in two parts.
 fn shape_of(alloc: Global, rounds: u32, exact: bool, threshold: u64) -> Result<Shape, Memory>
     ensures rounds { IfOk result (λ shape. shape.rounds ≡ rounds) }
+    ensures steps { IfOk result (λ shape. FewSteps shape.steps) }
 {
     let mut sources = Sources::new(alloc);
     sources.push(Source {
