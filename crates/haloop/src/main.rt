@@ -2,12 +2,16 @@
 //! to the run, and ends with the run's status.
 #![tactic(auto)]
 
+ghost use Rattle.std.specs.Prelude.{◌≡◌, ◌≢◌, ◌↔◌};
+ghost use Rattle.std.specs.IoError.{error_kind};
+
 mod device;
 mod folder_files;
 mod std_sink;
 
 use folder_files::FolderFiles;
 use haloop_run::haloop_top;
+use std::io::ErrorKind;
 use std::process::ExitCode;
 use std::{env, io};
 use std_sink::StdSink;
@@ -15,9 +19,13 @@ use std_sink::StdSink;
 /// The status where the system does not give the words of the command.
 const NO_WORDS: u8 = 8;
 
+/// The status where there is no memory for them.
+const NO_MEMORY: u8 = 10;
+
 fn main(rt: HostRuntime) -> ExitCode {
-    let Ok(words) = words_after_name(&rt) else {
-        return ExitCode::from(NO_WORDS);
+    let words = match words_after_name(&rt) {
+        Ok(words) => words,
+        Err(error) => return ExitCode::from(status_without_words(&error)),
     };
     let mut files = FolderFiles::new(&rt);
     let mut out = StdSink::new(&rt);
@@ -29,4 +37,15 @@ fn words_after_name(rt: &HostRuntime) -> io::Result<Vec<String>> {
     let mut words = env::args(rt)?;
     let _program = words.next();
     Ok(words.collect(rt.alloc())?)
+}
+
+fn status_without_words(error: &io::Error) -> u8
+    ensures memory { (result ≡ 10) ↔ (error_kind error.now ≡ ErrorKind.OutOfMemory) }
+    ensures device { (result ≡ 8) ↔ (error_kind error.now ≢ ErrorKind.OutOfMemory) }
+{
+    if error.kind() == ErrorKind::OutOfMemory {
+        NO_MEMORY
+    } else {
+        NO_WORDS
+    }
 }
