@@ -26,12 +26,18 @@ sooner m shape tables n word parts e l b o = record { ends = record { within = l
 
 pub computed : WorkedRows
 computed = record {
+  hops_first = refl;
+  hops_second = refl;
   distances_by_hops = in_round_3 hops (hops_shape 20) ((pair 1 0 ∷ []) ∷ links ∷ []) fixpoint _ (lit< tt) (lit≤ tt) (refl, lit≤ tt, lit< tt) refl;
+  empty_first = refl;
   empty_start = sooner hops (hops_shape 20) ([] ∷ links ∷ []) 1 fixpoint _ (lit≤ tt) (lit< tt) (refl, lit≤ tt, lit< tt) refl;
   one_round = sooner hops (hops_shape 1) ((pair 1 0 ∷ []) ∷ links ∷ []) 0 limit _ (lit≤ tt) (lit< tt) (refl, λ h. absurd (omega arith)) refl;
+  counted_first = refl;
   counted_links = sooner counts counts_shape ((pair 9 0 ∷ []) ∷ (pair 1 2 ∷ pair 1 3 ∷ pair 4 1 ∷ []) ∷ []) 1 limit _ (lit≤ tt) (lit< tt) (refl, λ h. lit≤ tt) refl;
   counted_distance = refl;
   one_job = sooner leasts one_job_shape ((pair 2 7 ∷ pair 1 5 ∷ pair 2 3 ∷ []) ∷ []) 0 limit _ (lit≤ tt) (lit< tt) (refl, λ h. absurd (omega arith)) refl;
+  late_first = refl;
+  late_second = refl;
   late_table = in_round_3 leasts late_shape ((pair 1 9 ∷ []) ∷ (pair 1 4 ∷ []) ∷ []) fixpoint _ (lit< tt) (lit≤ tt) (refl, lit≤ tt, lit< tt) refl;
   ranks_first = refl;
   ranks_second = refl;

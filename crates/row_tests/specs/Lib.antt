@@ -1,3 +1,3 @@
-pub mod KeysAlone
+pub mod CountLaws
 pub mod Programs
 pub mod Rows

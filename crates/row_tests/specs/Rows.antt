@@ -13,12 +13,18 @@ pub record Gives (m : Meaning) (shape : Shape) (tables : List (List Record)) (n 
   pub out : last_out m shape tables n ≡ parts
 
 pub record WorkedRows : Type 0 where
+  pub hops_first : last_out hops (hops_shape 20) ((pair 1 0 ∷ []) ∷ links ∷ []) 0 ≡ (pair 2 1 ∷ []) ∷ (pair 1 0 ∷ []) ∷ []
+  pub hops_second : last_out hops (hops_shape 20) ((pair 1 0 ∷ []) ∷ links ∷ []) 1 ≡ (pair 2 1 ∷ []) ∷ (pair 1 0 ∷ pair 3 2 ∷ []) ∷ []
   pub distances_by_hops : Gives hops (hops_shape 20) ((pair 1 0 ∷ []) ∷ links ∷ []) 2 fixpoint ((pair 2 1 ∷ []) ∷ (pair 1 0 ∷ pair 3 2 ∷ []) ∷ [])
+  pub empty_first : last_out hops (hops_shape 20) ([] ∷ links ∷ []) 0 ≡ [] ∷ [] ∷ []
   pub empty_start : Gives hops (hops_shape 20) ([] ∷ links ∷ []) 1 fixpoint ([] ∷ [] ∷ [])
   pub one_round : Gives hops (hops_shape 1) ((pair 1 0 ∷ []) ∷ links ∷ []) 0 limit ((pair 2 1 ∷ []) ∷ (pair 1 0 ∷ []) ∷ [])
+  pub counted_first : last_out counts counts_shape ((pair 9 0 ∷ []) ∷ (pair 1 2 ∷ pair 1 3 ∷ pair 4 1 ∷ []) ∷ []) 0 ≡ (pair 14 1 ∷ []) ∷ (pair 11 2 ∷ pair 19 0 ∷ []) ∷ []
   pub counted_links : Gives counts counts_shape ((pair 9 0 ∷ []) ∷ (pair 1 2 ∷ pair 1 3 ∷ pair 4 1 ∷ []) ∷ []) 1 limit ((pair 14 1 ∷ pair 24 0 ∷ []) ∷ (pair 11 2 ∷ pair 21 0 ∷ pair 29 0 ∷ []) ∷ [])
   pub counted_distance : round_distance counts counts_shape ((pair 9 0 ∷ []) ∷ (pair 1 2 ∷ pair 1 3 ∷ pair 4 1 ∷ []) ∷ []) 1 ≡ 4
   pub one_job : Gives leasts one_job_shape ((pair 2 7 ∷ pair 1 5 ∷ pair 2 3 ∷ []) ∷ []) 0 limit ((pair 1 5 ∷ pair 2 3 ∷ []) ∷ [])
+  pub late_first : last_out leasts late_shape ((pair 1 9 ∷ []) ∷ (pair 1 4 ∷ []) ∷ []) 0 ≡ (pair 1 9 ∷ []) ∷ []
+  pub late_second : last_out leasts late_shape ((pair 1 9 ∷ []) ∷ (pair 1 4 ∷ []) ∷ []) 1 ≡ (pair 1 4 ∷ []) ∷ []
   pub late_table : Gives leasts late_shape ((pair 1 9 ∷ []) ∷ (pair 1 4 ∷ []) ∷ []) 2 fixpoint ((pair 1 4 ∷ []) ∷ [])
   pub ranks_first : last_out ranks ranks_shape ((pair 1 1000000 ∷ pair 2 0 ∷ []) ∷ (pair 1 2 ∷ pair 2 1 ∷ []) ∷ []) 0 ≡ (pair 1 150000 ∷ pair 2 1000000 ∷ []) ∷ []
   pub ranks_second : last_out ranks ranks_shape ((pair 1 1000000 ∷ pair 2 0 ∷ []) ∷ (pair 1 2 ∷ pair 2 1 ∷ []) ∷ []) 1 ≡ (pair 1 1000000 ∷ pair 2 277500 ∷ []) ∷ []

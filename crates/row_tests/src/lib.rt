@@ -8,7 +8,7 @@ mod chain_tests;
 #[cfg(test)]
 mod failing;
 #[cfg(test)]
-mod keys_alone;
+mod link_counts;
 pub mod rows;
 #[cfg(test)]
 mod samples;
