@@ -1,12 +1,12 @@
--- The least key of sorted streams, and the job without it.
-use Rattle.std.proofs.Common.{◌≡◌, ◌<◌, ◌≤◌, Bool, true, false, cond, ◌||◌, List, [], ◌∷◌, ◌++◌, Option, None, Some, refl, sym, ap, ◌∙◌, map, length, arith, length-append}
+-- The least key of sorted streams, and the keys with their groups without it.
+use Rattle.std.proofs.Common.{◌≡◌, Bool, true, false, cond, ◌||◌, List, [], ◌∷◌, ◌++◌, Option, None, Some, refl, sym, ap, ◌∙◌, map}
 use Rattle.std.specs.declared.cmp.Ordering.{Ordering}
 use Rattle.std.specs.declared.cmp.Ordering.TheVariants.{Less, Equal, Greater}
 use Rattle.std.specs.Ordering.{is_eq, is_gt, is_le, ordering_reverse, ordering_then, eq_by_cmp}
 use Rattle.std.specs.Cmp.Lexicographic.{slice_cmp}
 use Rattle.std.specs.List.{AllByRecursion, list_any, filter, flat_map}
 use Rattle.std.proofs.lemmas.Cmp.{tied_itself, alike_right, upto}
-use Rattle.std.proofs.lemmas.List.Folds.{list_any-append}
+use Rattle.std.proofs.lemmas.List.Folds.{list_any-append, flat_map-map}
 use Rattle.hal_base.specs.declared.value.Value.{Value}
 use Rattle.hal_base.specs.declared.record.Record.{Record}
 use Rattle.hal_base.specs.Order.{value_cmp, record_cmp}
@@ -14,8 +14,10 @@ use Rattle.hal_base.specs.Laws.{value_cmp_total, value_cmp_exact}
 use Rattle.hal_base.specs.Sorted.{Ascending}
 use Rattle.hal_base.specs.Sorted.{sorted, distinct}
 use Rattle.plain_job.specs.Job.{has_key, key_of, fields_of, group, keys, job}
-use Rattle.plain_job.proofs.Keys.{all_keys, flat_alike, all_kept}
+use Rattle.plain_job.proofs.Keys.{all_keys, all_kept}
 use Rattle.group_reduce.specs.Front.{front, rest, least_key_of}
+use Rattle.group_reduce.specs.Groups.{groups_of, keyed_groups}
+use Rattle.group_reduce.specs.declared.KeyGroups.{KeyGroups}
 use Rattle.hal_base.proofs.Strict.{or_split, sorted_same, all_distinct, strict_distinct, any_distinct, same_strict}
 
 -- no key of the rows is below k
@@ -215,17 +217,23 @@ groups_rest k q (rows ∷ streams) h =
     let e : group rows q ≡ group (rest k rows) q = ap (λ xs. sorted (slice_cmp value_cmp) (map fields_of xs)) (filter_rest k q rows h) in
     let t = groups_rest k q streams h in cc
 
-pub job_step : (reduce : Value → List (List (List Value)) → List Record) (k : Value) (streams : List (List Record)) → AllByRecursion (Ascending record_cmp) streams → least_key_of None streams ≡ Some k → job reduce (λ _. true) streams ≡ reduce k (map (λ rows. map fields_of (front k rows)) streams) ++ job reduce (λ _. true) (map (rest k) streams)
-job_step reduce k streams a e =
+map_alike : {B : Type 0} (P : Value → Type 0) (g h : Value → B) → ((q : Value) → P q → g q ≡ h q) → (qs : List Value) → AllByRecursion P qs → map g qs ≡ map h qs
+map_alike P g h same [] a = refl
+map_alike P g h same (q ∷ qs) a = let e = same q a.0 in let t = map_alike P g h same qs a.1 in cc
+
+abbrev made : Value → List (List (List Value)) → KeyGroups
+made key groups = record { key = key; groups = groups }
+
+pub keyed_step : (k : Value) (streams : List (List Record)) → AllByRecursion (Ascending record_cmp) streams → least_key_of None streams ≡ Some k → keyed_groups streams ≡ record { key = k; groups = map (λ rows. map fields_of (front k rows)) streams } ∷ keyed_groups (map (rest k) streams)
+keyed_step k streams a e =
     let f = (least_is_least k None streams a e).1 in
-    let g : Value → List Record = λ q. reduce q (map (λ rows. group rows q) streams) in
-    let h : Value → List Record = λ q. reduce q (map (λ rows. group rows q) (map (rest k) streams)) in
     let left : List Value = keys (map (rest k) streams) in
-    ap (λ qs. flat_map g qs) (all_kept (keys streams) ∙ keys_peel k streams a f (least_stands k None streams e))
-    ∙ ap (λ gs. reduce k gs ++ flat_map g left) (groups_front k streams a f)
-    ∙ ap (λ ys. reduce k (map (λ rows. map fields_of (front k rows)) streams) ++ ys)
-    (flat_alike (λ q. value_cmp k q ≡ Less) g h (λ q p. ap (reduce q) (groups_rest k q streams p)) left (all_distinct value_cmp_total (λ q. value_cmp k q ≡ Less) (all_keys (map (rest k) streams)) (rests_above k streams a f))
-    ∙ ap (λ qs. flat_map h qs) (sym (all_kept left)))
+    let others : map (groups_of streams) left ≡ keyed_groups (map (rest k) streams) =
+    map_alike (λ q. value_cmp k q ≡ Less) (groups_of streams) (groups_of (map (rest k) streams)) (λ q p. ap (made q) (groups_rest k q streams p)) left (all_distinct value_cmp_total (λ q. value_cmp k q ≡ Less) (all_keys (map (rest k) streams)) (rests_above k streams a f))
+    in
+    ap (map (groups_of streams)) (keys_peel k streams a f (least_stands k None streams e))
+    ∙ ap (λ gs. made k gs ∷ map (groups_of streams) left) (groups_front k streams a f)
+    ∙ ap (λ ys. made k (map (λ rows. map fields_of (front k rows)) streams) ∷ ys) others
 
 no_keys : (best : Option Value) (streams : List (List Record)) → least_key_of best streams ≡ None → (best ≡ None) × (all_keys streams ≡ [])
 no_keys best [] e = (e, refl)
@@ -233,47 +241,11 @@ no_keys best ([] ∷ streams) e = no_keys best streams e
 no_keys None ((row ∷ rows) ∷ streams) e = let h = no_keys (Some row.key) streams e in let c = h.0 in cc
 no_keys (Some b) ((row ∷ rows) ∷ streams) e = let h = no_keys (Some (cond (is_le (value_cmp b row.key)) b row.key)) streams e in let c = h.0 in cc
 
-pub job_done : (reduce : Value → List (List (List Value)) → List Record) (streams : List (List Record)) → least_key_of None streams ≡ None → job reduce (λ _. true) streams ≡ []
-job_done reduce streams e =
-    ap (λ ks. flat_map (λ k. reduce k (map (λ rows. group rows k) streams)) (filter (λ _. true) (distinct value_cmp ks))) (no_keys None streams e).1
+pub keyed_done : (streams : List (List Record)) → least_key_of None streams ≡ None → keyed_groups streams ≡ []
+keyed_done streams e = ap (λ ks. map (groups_of streams) (distinct value_cmp ks)) (no_keys None streams e).1
 
--- ---- the records left
-
-abbrev pub together : List (List Record) → List Record
-together streams = flat_map (λ rows. rows) streams
-
-rest_le : (k : Value) (rows : List Record) → length (rest k rows) ≤ length rows
-rest_le k [] = omega arith
-rest_le k (row ∷ rows) =
-    elim (has_key k row) as (λ b. length (cond b (rest k rows) (row ∷ rows)) ≤ length (row ∷ rows)) [
-      | true ↦ omega (arith, rest_le k rows)
-      | false ↦ omega arith
-    ]
-
-rests_le : (k : Value) (streams : List (List Record)) → length (together (map (rest k) streams)) ≤ length (together streams)
-rests_le k [] = omega arith
-rests_le k (rows ∷ streams) =
-    omega (arith, rest_le k rows, rests_le k streams, length-append (rest k rows) (together (map (rest k) streams)), length-append rows (together streams))
-
-through : (k : Value) (row : Record) (rows : List Record) (streams : List (List Record)) → (eq_by_cmp value_cmp k row.key ≡ false → length (together (map (rest k) streams)) < length (together streams)) → length (together (map (rest k) ((row ∷ rows) ∷ streams))) < length (together ((row ∷ rows) ∷ streams))
-through k row rows streams later =
-    elim (has_key k row) as (λ b. has_key k row ≡ b → length (cond b (rest k rows) (row ∷ rows) ++ together (map (rest k) streams)) < length ((row ∷ rows) ++ together streams)) [
-      | true ↦ λ e. omega (arith, rest_le k rows, rests_le k streams, length-append (rest k rows) (together (map (rest k) streams)), length-append rows (together streams))
-      | false ↦ λ e. omega (arith, later e, length-append rows (together (map (rest k) streams)), length-append rows (together streams))
-    ] refl
-
-neither : (k b r : Value) (c : Bool) → eq_by_cmp value_cmp k b ≡ false → eq_by_cmp value_cmp k r ≡ false → eq_by_cmp value_cmp k (cond c b r) ≡ false
-neither k b r true n d = n
-neither k b r false n d = d
-
-shorter_by : (k : Value) (best : Option Value) (streams : List (List Record)) → least_key_of best streams ≡ Some k → is_best k best ≡ false → length (together (map (rest k) streams)) < length (together streams)
-shorter_by k best [] e n =
-    let c : is_best k best ≡ true = rw (e, tied_itself value_cmp_total k) in
-    let d : true ≡ false = sym c ∙ n in absurd (differ d)
-shorter_by k best ([] ∷ streams) e n = shorter_by k best streams e n
-shorter_by k None ((row ∷ rows) ∷ streams) e n = through k row rows streams (λ d. shorter_by k (Some row.key) streams e d)
-shorter_by k (Some b) ((row ∷ rows) ∷ streams) e n =
-    through k row rows streams (λ d. shorter_by k (Some (cond (is_le (value_cmp b row.key)) b row.key)) streams e (neither k b row.key (is_le (value_cmp b row.key)) n d))
-
-pub shorter : (k : Value) (streams : List (List Record)) → least_key_of None streams ≡ Some k → length (together (map (rest k) streams)) < length (together streams)
-shorter k streams e = shorter_by k None streams e refl
+pub job_is : (reduce : Value → List (List (List Value)) → List Record) (streams : List (List Record)) → flat_map (λ (next : KeyGroups). reduce next.key next.groups) (keyed_groups streams) ≡ job reduce (λ _. true) streams
+job_is reduce streams =
+    let emitted : Value → List Record = λ k. reduce k (map (λ rows. group rows k) streams) in
+    flat_map-map (λ (next : KeyGroups). reduce next.key next.groups) (groups_of streams) (keys streams)
+    ∙ ap (flat_map emitted) (sym (all_kept (keys streams)))

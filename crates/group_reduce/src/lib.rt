@@ -1,18 +1,26 @@
 //! The grouped reduce over sorted streams.
 #![tactic(auto)]
 
-ghost use Rattle.std.specs.Prelude.{◌≡◌, ◌++◌, true, map, IfOk, OnOk, IsTrue, MatchOption};
+ghost use Rattle.std.specs.Prelude.{◌≡◌, [], ◌∷◌, ◌++◌, true, map, IfOk, OnOk, MatchOption};
 ghost use Rattle.std.specs.Option.{option_copied};
 ghost use Rattle.std.specs.List.{AllByRecursion};
 ghost use Rattle.hal_base.specs.Order.{record_cmp};
 ghost use Rattle.hal_base.specs.Sorted.{Ascending};
 ghost use Rattle.plain_job.specs.Job.{job, fields_of, has_key};
 ghost use Rattle.group_reduce.specs.Front.{front, rest, least_key_of, starts};
+ghost use Rattle.group_reduce.specs.Groups.{keyed_groups};
 
 use hal_base::{
     CopyIn, Functions, Group, Groups, Memory, Record, Records, SortedStream, Value, compare,
 };
 use std::alloc::Global;
+
+/// A key and its groups, one for each stream.
+#[derive(Drop)]
+pub struct KeyGroups {
+    pub key: Value,
+    pub groups: Groups,
+}
 
 /// What the reduce of this step emits for each key that stands in a stream, in ascending order of the
 /// keys, with one group for each stream. It takes the records off the streams, one key at a time.
@@ -27,27 +35,42 @@ pub fn reduce_part<F: Functions, S: SortedStream>(
     ensures { IfOk result (λ out. out ≡ job ((F.meaning functions.now).reduce round step) (λ _. true) (map S.rows streams.old)) }
 {
     let mut out = Records::new(alloc);
-    'keys: while let Some(key) = next_key(alloc, streams)? {
-        reduce_key(alloc, functions, round, step, streams, key, &mut out)?;
+    'keys: while let Some(next) = next_groups(alloc, streams)? {
+        reduce_key(alloc, functions, round, step, next, &mut out)?;
     }
     Ok(out)
 }
 
-/// Takes the records with this key off the streams, and adds what reduce emits for them.
-fn reduce_key<F: Functions, S: SortedStream>(
+/// Adds what reduce emits for a key and its groups.
+fn reduce_key<F: Functions>(
     alloc: Global,
     functions: &F,
     round: u32,
     step: u32,
-    streams: &mut [S],
-    key: Value,
+    next: KeyGroups,
     out: &mut Records,
 ) -> Result<(), Memory>
-    ensures emitted { OnOk result (out.new ≡ out.old ++ (F.meaning functions.now).reduce round step key (map (λ rows. map fields_of (front key rows)) (map S.rows streams.old))) }
-    ensures taken { OnOk result (map S.rows streams.new ≡ map (rest key) (map S.rows streams.old)) }
+    ensures { OnOk result (out.new ≡ out.old ++ (F.meaning functions.now).reduce round step next.key next.groups) }
 {
-    let groups = take_groups(alloc, streams, &key)?;
-    functions.reduce(alloc, round, step, &key, &groups, out)
+    functions.reduce(alloc, round, step, &next.key, &next.groups, out)
+}
+
+/// Takes the records with the least key off the streams. `None` exactly where nothing is left; after
+/// `Memory` some of these records may be lost.
+/// docs/SEMANTICS.md, "Streams, groups and keys".
+pub fn next_groups<S: SortedStream>(
+    alloc: Global,
+    streams: &mut [S],
+) -> Result<Option<KeyGroups>, Memory>
+    ensures next { IfOk result (λ next. MatchOption next ((keyed_groups (map S.rows streams.old) ≡ []) × (keyed_groups (map S.rows streams.new) ≡ [])) (λ first. keyed_groups (map S.rows streams.old) ≡ first ∷ keyed_groups (map S.rows streams.new))) }
+{
+    match next_key(alloc, streams)? {
+        None => Ok(None),
+        Some(key) => {
+            let groups = take_groups(alloc, streams, &key)?;
+            Ok(Some(KeyGroups { key, groups }))
+        }
+    }
 }
 
 fn next_key<S: SortedStream>(alloc: Global, streams: &[S]) -> Result<Option<Value>, Memory>

@@ -36,8 +36,11 @@ congr (Text x) (Text y) (Text z) p = nat_list_cmp_total.congr x y z p
 pub value_cmp_total : IsTotalOrder value_cmp
 value_cmp_total = record { antisymm = antisymm; trans = trans; congr = congr }
 
+pub fields_cmp_total : IsTotalOrder (slice_cmp value_cmp)
+fields_cmp_total = lists_total value_cmp_total
+
 pub record_cmp_total : IsTotalOrder record_cmp
-record_cmp_total = then_total (on_total (λ (r : Record). r.key) value_cmp_total) (on_total (λ (r : Record). r.fields) (lists_total value_cmp_total))
+record_cmp_total = then_total (on_total (λ (r : Record). r.key) value_cmp_total) (on_total (λ (r : Record). r.fields) fields_cmp_total)
 
 pub value_cmp_exact : CmpEqualImpliesEq value_cmp
 value_cmp_exact (Int x) (Int y) h = ap Int (exact_signed x y h)

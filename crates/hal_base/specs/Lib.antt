@@ -5,6 +5,7 @@ pub mod Lines
 pub mod Meaning
 pub mod Numbers
 pub mod Order
+pub mod Parts
 pub mod Sorted
 pub mod TableFaults
 pub mod Text

@@ -1,6 +1,9 @@
-ghost use Rattle.std.specs.Prelude.{◌≡◌, ◌<◌, ◌≤◌, List, [], ◌∷◌, ◌++◌, length, slice_get, IfOk, OnErr, OnOk};
+ghost use Rattle.std.specs.Prelude.{◌≡◌, refl, ◌<◌, ◌≤◌, List, [], ◌∷◌, ◌++◌, length, slice_get, IfOk, OnErr, OnOk};
 ghost use Rattle.std.specs.Option.{option_copied};
+ghost use Rattle.std.specs.Ordering.{as_partial_cmp, eq_by_cmp};
+ghost use Rattle.std.specs.Cmp.{eq_by_cmp_equiv, partial_equiv_from_equiv, partial_order_from_agreeing_total};
 ghost use Rattle.std.specs.Cmp.Lexicographic.{slice_cmp};
+ghost use Rattle.hal_base.specs.Laws.{fields_cmp_total};
 ghost use Rattle.hal_base.specs.Order.{value_cmp};
 
 use crate::items::CopyIn;
@@ -72,6 +75,44 @@ impl Fields {
     {
         self.items.as_slice().cmp(other.items.as_slice())
     }
+}
+
+impl PartialEq for Fields {
+    ghost eq = { eq_by_cmp (slice_cmp value_cmp) };
+
+    fn eq(&self, other: &Fields) -> bool {
+        self.compare(other).is_eq()
+    }
+
+    ghost laws = { partial_equiv_from_equiv (eq_by_cmp_equiv fields_cmp_total) };
+}
+
+impl Eq for Fields {
+    ghost laws = { eq_by_cmp_equiv fields_cmp_total };
+}
+
+impl PartialOrd for Fields {
+    ghost partial_cmp = { as_partial_cmp (slice_cmp value_cmp) };
+
+    fn partial_cmp(&self, other: &Fields) -> Option<Ordering> {
+        Some(self.compare(other))
+    }
+
+    ghost laws = { partial_order_from_agreeing_total (slice_cmp value_cmp) fields_cmp_total (λ _ _. refl) (λ _ _. refl) };
+}
+
+impl Ord for Fields {
+    ghost cmp = { slice_cmp value_cmp };
+
+    fn cmp(&self, other: &Fields) -> Ordering {
+        self.compare(other)
+    }
+
+    ghost total = { fields_cmp_total };
+
+    ghost matches_partial_cmp = { λ _ _. refl };
+
+    ghost matches_eq = { λ _ _. refl };
 }
 
 impl CopyIn for Fields {

@@ -1,4 +1,4 @@
-ghost use Rattle.std.specs.Prelude.{◌≡◌, [], ◌∷◌, ◌++◌, ◌<◌, length, slice_get, IfOk, OnOk, OnErr, OnSome};
+ghost use Rattle.std.specs.Prelude.{◌≡◌, [], ◌∷◌, ◌++◌, ◌<◌, length, slice_get, take, IfOk, OnOk, OnErr, OnSome};
 ghost use Rattle.std.specs.Option.{option_copied};
 
 use crate::memory::Memory;
@@ -86,6 +86,21 @@ impl<T: Drop> Items<T> {
         ensures err { OnErr result (self.new ≡ self.old) }
     {
         self.items.push(item).map_err(|_| Memory)
+    }
+
+    /// Drops what stands past this many items.
+    pub fn truncate(&mut self, len: usize)
+        ensures { self.new ≡ take len self.old }
+    {
+        self.items.truncate(len);
+    }
+
+    /// Moves the items of another list to the end. After `Memory` both lists are as before.
+    pub fn append(&mut self, others: &mut Items<T>) -> Result<(), Memory>
+        ensures ok { OnOk result ((self.new ≡ self.old ++ others.old) × (others.new ≡ [])) }
+        ensures err { OnErr result ((self.new ≡ self.old) × (others.new ≡ others.old)) }
+    {
+        Ok(self.items.append(&mut others.items)?)
     }
 }
 

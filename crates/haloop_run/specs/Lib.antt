@@ -1,5 +1,4 @@
 pub mod Form
-pub mod FormLaws
 pub mod FormReading
 pub mod Inputs
 pub mod Outputs

@@ -8,22 +8,15 @@ use Rattle.hal_base.specs.declared.shape.Shape.{Shape}
 use Rattle.hal_base.specs.Meaning.{Meaning}
 use Rattle.hal_outside.specs.Told.{FileMap, AfterFailedAppend}
 use Rattle.plain_job.specs.Ends.{IsChain, limit}
-use Rattle.plain_job.specs.Predefined.{same, least}
+use Rattle.predefined_functions.specs.declared.predefined.Reduce.TheVariants.{Least}
+use Rattle.predefined_functions.specs.Meanings.{predefined_meaning}
 use Rattle.haloop_run.specs.Words.{Asked, IsRun, IsUsage}
 use Rattle.haloop_run.specs.Form.{Form}
 use Rattle.haloop_run.specs.Inputs.{pairs, FirstAbsent, FirstRefused, IsAccepted}
 
 -- the functions of the form: the map `same`, the reduce `least`, and one part
 abbrev pub form_meaning : Meaning
-form_meaning = record {
-  map = λ i j s row. same row;
-  reduce = λ i j key groups. least key groups;
-  partition = λ i j key. 0;
-  distance = λ key old new. 0;
-  map_uses_round = λ j s. false;
-  partition_uses_round = λ j. false;
-  keeps_key = λ j. true;
-}
+form_meaning = predefined_meaning 1 (Least ∷ [])
 
 -- the shape of the form: one table, one part, one round, and one step that reads the state
 abbrev pub form_shape : Shape

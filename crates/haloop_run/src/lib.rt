@@ -5,7 +5,6 @@ mod form;
 mod input;
 mod job;
 mod listed;
-mod predefined;
 mod refusal;
 mod run;
 mod top;

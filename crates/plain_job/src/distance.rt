@@ -1,12 +1,9 @@
 ghost use Rattle.std.specs.Prelude.{◌≡◌, ◌∷◌, [], IfOk};
-ghost use Rattle.std.specs.Ordering.{is_eq};
-ghost use Rattle.std.specs.Cmp.Lexicographic.{slice_cmp};
-ghost use Rattle.hal_base.specs.Order.{value_cmp};
 ghost use Rattle.plain_job.specs.Ends.{distance, key_distance};
 ghost use Rattle.plain_job.specs.Job.{group, keys};
 
 use crate::plain::{group_of, keys_of};
-use hal_base::{CopyIn, Fields, Functions, Items, Memory, Parts, Records, Shape, Value};
+use hal_base::{CopyIn, Functions, Items, Memory, Parts, Records, Shape, Value};
 use std::alloc::Global;
 
 /// The greatest distance, at which sums stop.
@@ -56,21 +53,9 @@ fn distance_at<F: Functions>(
     if !exact {
         return functions.distance(alloc, key, &old, &new);
     }
-    if same_groups(old.as_slice(), new.as_slice()) {
+    if old.as_slice().cmp(new.as_slice()).is_eq() {
         Ok(0)
     } else {
         Ok(1)
     }
-}
-
-fn same_groups(old: &[Fields], new: &[Fields]) -> bool
-    ensures { result ≡ is_eq (slice_cmp (slice_cmp value_cmp) old.now new.now) }
-{
-    let [a, others @ ..] = old else {
-        return new.is_empty();
-    };
-    let [b, more @ ..] = new else {
-        return false;
-    };
-    a.compare(b).is_eq() && same_groups(others, more)
 }

@@ -1,3 +1,3 @@
-pub mod CountLaws
+pub mod ProgramLaws
 pub mod Programs
 pub mod Rows

@@ -1,9 +1,9 @@
 -- Small worked programs, as shapes, meanings and tables.
-use Rattle.std.specs.Prelude.{ℕ, ◌+◌, ◌%◌, ◌==◌, ℤ, pos, negsuc, ◌+ℤ◌, ◌*ℤ◌, int_div, Bool, true, false, List, [], ◌∷◌, None, Some, length, if◌then◌else◌}
+use Rattle.std.specs.Prelude.{ℕ, ◌+◌, ◌==◌, ℤ, pos, negsuc, ◌+ℤ◌, ◌*ℤ◌, int_div, Bool, true, false, List, [], ◌∷◌, None, Some, length, if◌then◌else◌}
 use Rattle.std.specs.List.{flat_map}
 use Rattle.hal_base.specs.declared.value.Kind.TheVariants as kind
 use Rattle.hal_base.specs.declared.value.Value.{Value}
-use Rattle.hal_base.specs.declared.value.Value.TheVariants.{Int, Text}
+use Rattle.hal_base.specs.declared.value.Value.TheVariants.{Int}
 use Rattle.hal_base.specs.declared.record.Record.{Record}
 use Rattle.hal_base.specs.declared.fields.Schema.{Schema}
 use Rattle.hal_base.specs.declared.shape.Origin.{Origin}
@@ -12,7 +12,10 @@ use Rattle.hal_base.specs.declared.shape.Source.{Source}
 use Rattle.hal_base.specs.declared.shape.Step.{Step}
 use Rattle.hal_base.specs.declared.shape.Shape.{Shape}
 use Rattle.hal_base.specs.Meaning.{Meaning}
-use Rattle.plain_job.specs.Predefined.{same, least, hop, made, keyed, add}
+use Rattle.hal_base.specs.Parts.{default_part}
+use Rattle.plain_job.specs.Predefined.{same, made, keyed, add}
+use Rattle.predefined_functions.specs.declared.predefined.Reduce.TheVariants.{Least, Hop}
+use Rattle.predefined_functions.specs.Meanings.{predefined_meaning}
 
 -- a record of two numbers
 abbrev pub pair : ℕ → ℕ → Record
@@ -27,18 +30,12 @@ source from = record { from = from; stream = pairs; reducer_input = false; mappe
 abbrev pub step : List Source → Step
 step sources = record { sources = sources; out = pairs }
 
--- the default part of a number of two
-abbrev pub odd : Value → ℕ
-odd (Int (pos n)) = n % 2
-odd (Int (negsuc n)) = (n + 1) % 2
-odd (Text bytes) = 0
-
--- a program whose maps are all `same` and whose steps have these reduces
-abbrev pub program : (ℕ → Value → List (List (List Value)) → List Record) → (Value → ℕ) → (Value → List (List Value) → List (List Value) → ℕ) → Meaning
-program reduce partition distance = record {
+-- a program whose maps are all `same` and whose steps have these reduces, over so many parts
+abbrev pub program : (ℕ → Value → List (List (List Value)) → List Record) → ℕ → (Value → List (List Value) → List (List Value) → ℕ) → Meaning
+program reduce parts distance = record {
   map = λ i j s row. same row;
   reduce = λ i j. reduce j;
-  partition = λ i j key. partition key;
+  partition = λ i j key. default_part key parts;
   distance = distance;
   map_uses_round = λ j s. false;
   partition_uses_round = λ j. false;
@@ -65,7 +62,7 @@ none key old new = 0
 -- ---- distances by hops
 
 abbrev pub hops : Meaning
-hops = program (λ j. if j == 1 then hop else least) odd none
+hops = predefined_meaning 2 (Hop ∷ Least ∷ [])
 
 abbrev pub hops_shape : ℕ → Shape
 hops_shape rounds = shape 2 rounds true 1 2 (step (source State ∷ source (Table 1 None) ∷ []) ∷ step (source Prev ∷ source (Table 0 None) ∷ []) ∷ [])
@@ -80,18 +77,15 @@ count (Int k) (s ∷ t ∷ []) = made (Int (add k (pos 10))) (Int (pos (length t
 count key groups = []
 
 abbrev pub counts : Meaning
-counts = program (λ j. count) odd none
+counts = program (λ j. count) 2 none
 
 abbrev pub counts_shape : Shape
 counts_shape = shape 2 2 true 1 2 (step (source State ∷ source (Table 1 None) ∷ []) ∷ [])
 
 -- ---- one job, and a table that is read in round 2 only
 
-abbrev pub first : Value → ℕ
-first key = 0
-
 abbrev pub leasts : Meaning
-leasts = program (λ j. least) first none
+leasts = predefined_meaning 1 (Least ∷ [])
 
 abbrev pub one_job_shape : Shape
 one_job_shape = shape 1 1 true 1 1 (step (source State ∷ []) ∷ [])
@@ -109,8 +103,15 @@ abbrev pub total : List (List Value) → ℤ
 total [] = pos 0
 total (fields ∷ group) = number fields +ℤ total group
 
+-- what each of these targets gets of a rank: 85 of 100, shared among them
+abbrev pub part_of : ℤ → List (List Value) → List Value
+part_of x targets = Int (int_div (x *ℤ pos 85) (pos (length targets) *ℤ pos 100)) ∷ []
+
+abbrev pub shared : List (List Value) → List Value → List Record
+shared targets rank = flat_map (λ u. keyed u (part_of (number rank) targets)) targets
+
 abbrev pub share : Value → List (List (List Value)) → List Record
-share key (ranks ∷ targets ∷ []) = made key (Int (pos 0) ∷ []) ∷ flat_map (λ x. flat_map (λ u. keyed u (Int (int_div (number x *ℤ pos 85) (pos (length targets) *ℤ pos 100)) ∷ [])) targets) ranks
+share key (ranks ∷ targets ∷ []) = made key (Int (pos 0) ∷ []) ∷ flat_map (shared targets) ranks
 share key groups = []
 
 abbrev pub summed : Value → List (List (List Value)) → List Record
@@ -125,7 +126,7 @@ abbrev pub moved : Value → List (List Value) → List (List Value) → ℕ
 moved key old new = size (total new +ℤ (negsuc 0 *ℤ total old))
 
 abbrev pub ranks : Meaning
-ranks = program (λ j. if j == 1 then share else summed) first moved
+ranks = program (λ j. if j == 1 then share else summed) 1 moved
 
 abbrev pub ranks_shape : Shape
 ranks_shape = shape 1 50 false 1400000 2 (step (source State ∷ source (Table 1 None) ∷ []) ∷ step (source Prev ∷ []) ∷ [])

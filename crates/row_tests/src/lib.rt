@@ -9,6 +9,8 @@ mod chain_tests;
 mod failing;
 #[cfg(test)]
 mod link_counts;
+#[cfg(test)]
+mod ranks;
 pub mod rows;
 #[cfg(test)]
 mod samples;

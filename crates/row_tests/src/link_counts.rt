@@ -1,16 +1,14 @@
 // The functions of the worked program that counts the links of each key.
-ghost use Rattle.std.specs.Prelude.{◌≡◌};
-ghost use Rattle.row_tests.specs.Programs.{odd};
-
-use hal_base::{CopyIn, Fields, Functions, Group, Groups, Memory, Record, Records, Value};
+use hal_base::{Fields, Functions, Group, Groups, Memory, Record, Records, Value, default_part};
+use predefined_functions::same;
 use std::alloc::Global;
 
 #[derive(Drop)]
 pub struct LinkCounts {}
 
 impl Functions for LinkCounts {
-    ghost use Rattle.row_tests.specs.Programs.{counts};
-    ghost use Rattle.row_tests.specs.CountLaws.{counts_round_law, counts_key_law, counts_value_law};
+    ghost use Rattle.row_tests.specs.Programs.{count, counts, none};
+    ghost use Rattle.row_tests.specs.ProgramLaws.{program_round_law, program_key_law, program_value_law};
 
     ghost meaning = { λ f. counts };
 
@@ -23,7 +21,7 @@ impl Functions for LinkCounts {
         row: &Record,
         out: &mut Records,
     ) -> Result<(), Memory> {
-        out.push(row.copy(alloc)?)
+        same(alloc, row, out)
     }
 
     fn reduce(
@@ -57,7 +55,7 @@ impl Functions for LinkCounts {
         _step: u32,
         key: &Value,
     ) -> Result<u32, Memory> {
-        Ok(part_of(key))
+        Ok(default_part(key, 2))
     }
 
     fn distance(
@@ -82,18 +80,9 @@ impl Functions for LinkCounts {
         false
     }
 
-    ghost round_law = { λ f. counts_round_law };
+    ghost round_law = { λ f. program_round_law (λ j. count) 2 none };
 
-    ghost key_law = { λ f. counts_key_law };
+    ghost key_law = { λ f. program_key_law (λ j. count) 2 none };
 
-    ghost value_law = { λ f. counts_value_law };
-}
-
-fn part_of(key: &Value) -> u32
-    ensures { result ≡ odd key.now }
-{
-    match key {
-        Value::Int(number) => (number.unsigned_abs() % 2) as u32,
-        Value::Text(_) => 0,
-    }
+    ghost value_law = { λ f. program_value_law (λ j. count) 2 none };
 }

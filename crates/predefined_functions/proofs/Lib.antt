@@ -1,0 +1,4 @@
+pub mod EverySteps
+pub mod Growing
+pub mod LeastSteps
+pub mod Steps

@@ -1,0 +1,3 @@
+pub mod Grown
+pub mod MeaningLaws
+pub mod Meanings
