@@ -6,3 +6,4 @@ pub mod ReadingLaws
 pub mod Sorts
 pub mod Spellings
 pub mod Strict
+pub mod TextLaws

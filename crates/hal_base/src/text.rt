@@ -46,6 +46,16 @@ impl Text {
         })
     }
 
+    #[tactic(auto, using(crate::proofs::TextLaws::text_is_utf8))]
+    pub fn as_str(&self) -> &str
+        ensures { result.now ≡ self.now }
+    {
+        match str::from_utf8(self.bytes.as_slice()) {
+            Ok(text) => text,
+            Err(_) => unreachable!(),
+        }
+    }
+
     pub fn len(&self) -> usize
         ensures len { result ≡ length self.now }
         ensures text { IsText self.now }

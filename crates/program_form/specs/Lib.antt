@@ -1,0 +1,5 @@
+pub mod Forms
+pub mod Reading
+pub mod Rules
+pub mod Shapes
+pub mod Words

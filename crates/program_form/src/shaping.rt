@@ -1,0 +1,163 @@
+ghost use Rattle.std.specs.Prelude.{◌≡◌, ◌++◌, ◌≤◌, IfOk, List, OnOk, map, ℕ};
+ghost use Rattle.plain_job.specs.Plain.{FewSteps};
+ghost use Rattle.program_form.specs.Forms.{IsForm};
+ghost use Rattle.program_form.specs.Shapes as shapes;
+ghost use Rattle.program_form.specs.Shapes.{KnowsTables};
+
+use crate::form::{Form, Names, StepForm, TableForm};
+use hal_base::{
+    Counts, Items, Kind, Kinds, Memory, Origin, Schema, Schemas, Shape, Source, Sources, Step,
+    Steps, Text,
+};
+use predefined_functions::{Predefined, Reduces};
+use std::alloc::Global;
+
+/// The program without its functions: tables count from 0 in their order, every table and stream has a
+/// number as key and one number as field, and there are no caches. Of a program that keeps the rules, the
+/// steps are few and read tables of the program alone.
+pub fn form_shape(alloc: Global, form: &Form) -> Result<Shape, Memory>
+    ensures shape { IfOk result (λ shape. shape ≡ shapes.shape_of form.now) }
+    ensures few { (text : List ℕ) → IsForm text form.now → IfOk result (λ shape. FewSteps shape.steps) }
+    ensures known { (text : List ℕ) → IsForm text form.now → IfOk result KnowsTables }
+{
+    build_shape(alloc, form)
+}
+
+fn build_shape(alloc: Global, form: &Form) -> Result<Shape, Memory>
+    ensures { IfOk result (λ shape. shape ≡ shapes.shape_of form.now) }
+{
+    let tables = form.tables.as_slice();
+    Ok(Shape {
+        parts: form.parts,
+        rounds: form.rounds,
+        exact: true,
+        threshold: 1,
+        start: place_of(&form.start, tables)?,
+        tables: schemas_of(alloc, tables)?,
+        blocks: Counts::new(alloc),
+        steps: steps_of(alloc, tables, form.steps.as_slice())?,
+        reducer_output: false,
+    })
+}
+
+/// The reduces of the program's steps, over its parts. docs/SEMANTICS.md, "Predefined functions".
+pub fn form_functions(alloc: Global, form: &Form) -> Result<Predefined, Memory>
+    requires { 1 ≤ form.now.parts }
+    ensures { IfOk result (λ functions. functions ≡ (form.now.parts, map (λ step. step.reduce) form.now.steps)) }
+{
+    let mut reduces = Reduces::new(alloc);
+    'steps: for step in form.steps.as_slice() {
+        reduces.push(step.reduce)?;
+    }
+    Ok(Predefined::new(form.parts, reduces))
+}
+
+/// The number of the first table with this name, or of all tables. No memory holds more tables than a
+/// number counts.
+fn place_of(name: &Text, tables: &[TableForm]) -> Result<u32, Memory>
+    ensures { IfOk result (λ place. place ≡ shapes.place_of name.now tables.now) }
+{
+    let mut place = 0u32;
+    'tables: for table in tables {
+        if name.as_slice() == table.name.as_slice() {
+            return Ok(place);
+        }
+        place = place.checked_add(1).ok_or(Memory)?;
+    }
+    Ok(place)
+}
+
+fn schemas_of(alloc: Global, tables: &[TableForm]) -> Result<Schemas, Memory>
+    ensures { IfOk result (λ schemas. schemas ≡ map (λ table. shapes.pairs) tables.now) }
+{
+    let mut schemas = Schemas::new(alloc);
+    'tables: for _table in tables {
+        schemas.push(pairs(alloc)?)?;
+    }
+    Ok(schemas)
+}
+
+fn pairs(alloc: Global) -> Result<Schema, Memory>
+    ensures { IfOk result (λ schema. schema ≡ shapes.pairs) }
+{
+    let mut fields = Kinds::new(alloc);
+    fields.push(Kind::Int)?;
+    Ok(Schema {
+        key: Kind::Int,
+        fields,
+    })
+}
+
+fn steps_of(alloc: Global, tables: &[TableForm], steps: &[StepForm]) -> Result<Steps, Memory>
+    ensures { IfOk result (λ made. made ≡ shapes.steps_of tables.now steps.now) }
+{
+    let mut made = Steps::new(alloc);
+    if let [first, others @ ..] = steps {
+        made.push(step_of(alloc, tables, Origin::State, first)?)?;
+        push_later(alloc, tables, others, &mut made)?;
+    }
+    Ok(made)
+}
+
+fn push_later(
+    alloc: Global,
+    tables: &[TableForm],
+    steps: &[StepForm],
+    made: &mut Steps,
+) -> Result<(), Memory>
+    ensures { OnOk result (made.new ≡ made.old ++ map (shapes.step_of tables.now Origin.Prev) steps.now) }
+{
+    'steps: for step in steps {
+        made.push(step_of(alloc, tables, Origin::Prev, step)?)?;
+    }
+    Ok(())
+}
+
+fn step_of(
+    alloc: Global,
+    tables: &[TableForm],
+    from: Origin,
+    step: &StepForm,
+) -> Result<Step, Memory>
+    ensures { IfOk result (λ made. made ≡ shapes.step_of tables.now from step.now) }
+{
+    let mut sources = Sources::new(alloc);
+    sources.push(source_of(alloc, from)?)?;
+    push_inputs(alloc, tables, &step.tables, &mut sources)?;
+    Ok(Step {
+        sources,
+        out: pairs(alloc)?,
+    })
+}
+
+fn push_inputs(
+    alloc: Global,
+    tables: &[TableForm],
+    names: &Names,
+    sources: &mut Sources,
+) -> Result<(), Memory>
+    ensures { OnOk result (sources.new ≡ sources.old ++ map (shapes.input_of tables.now) names.now) }
+{
+    'names: for name in names.as_slice() {
+        sources.push(input_of(alloc, tables, name)?)?;
+    }
+    Ok(())
+}
+
+fn input_of(alloc: Global, tables: &[TableForm], name: &Text) -> Result<Source, Memory>
+    ensures { IfOk result (λ source. source ≡ shapes.input_of tables.now name.now) }
+{
+    let table = place_of(name, tables)?;
+    source_of(alloc, Origin::Table { table, only: None })
+}
+
+fn source_of(alloc: Global, from: Origin) -> Result<Source, Memory>
+    ensures { IfOk result (λ source. source ≡ shapes.source_of from) }
+{
+    Ok(Source {
+        from,
+        stream: pairs(alloc)?,
+        reducer_input: false,
+        mapper_input: false,
+    })
+}
