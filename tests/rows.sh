@@ -55,9 +55,12 @@ form_lines=(
     'step { state by same; reduce least; }'
 )
 
-# form [NUMBER TEXT ..]: the accepted program, where TEXT, with its own line end, is in place of that line.
-form() {
-    local lines=("${form_lines[@]/%/\\n}")
+# program LINES [NUMBER TEXT ..]: the program of these lines, where TEXT, with its own line end, is in place of
+# that line.
+program() {
+    local -n of=$1
+    local lines=("${of[@]/%/\\n}")
+    shift
     while [ $# -gt 0 ]; do
         lines[$1 - 1]=$2
         shift 2
@@ -66,14 +69,28 @@ form() {
     put p.hal "${lines[*]}"
 }
 
+# form [NUMBER TEXT ..]: the accepted program, with these lines in place of its own.
+form() {
+    program form_lines "$@"
+}
+
+# How long a call may take: past it, it ends with status 124. 0 is for any time, which the build needs.
+seconds=0
+
 # call WORDS ..: runs the program.
 call() {
-    "$haloop" "$@" >"$work/said"
+    timeout --foreground "$seconds" "$haloop" "$@" >"$work/said"
     status=$?
 }
 
+# The command that does the job.
+by=run
+
 job() {
-    call run p.hal s.txt out
+    case $by in
+        run) call run p.hal s.txt out ;;
+        plain) call plain p.hal out ;;
+    esac
 }
 
 # Adds to what is wrong with the row.
@@ -124,7 +141,7 @@ part() {
     wants_file out/part-00000 "$1"
 }
 
-# refused: the job is not done, since an input is of another form.
+# refused: the job is not done, since the program or the schedule is of another form.
 refused() {
     job
     wants 12 "$not_built"
@@ -135,6 +152,13 @@ refused() {
 absent() {
     job
     wants 11 "error: file $1 absent\n"
+    wants_none out
+}
+
+# faulty TABLE FAULT: the job is not done, since this table has this fault in this line.
+faulty() {
+    job
+    wants 3 "error: table $1 line $2\n"
     wants_none out
 }
 
@@ -152,6 +176,7 @@ if [ ! -s "$work/said" ]; then
     echo "rows.sh: $haloop gives no program (status $status)" >&2
     exit 1
 fi
+seconds=10
 
 row 'one job'
 part "$least"
@@ -178,17 +203,17 @@ accepted_table 'numbers by value' \
     '9223372036854775807\t-9223372036854775808\n10\t1\n9\t10\n9\t9\n-9\t-1\n-9\t-2\n0\t0\n-10\t0\n-9223372036854775808\t9223372036854775807\n' \
     '-9223372036854775808\t9223372036854775807\n-10\t0\n-9\t-2\n0\t0\n9\t9\n10\t1\n9223372036854775807\t-9223372036854775808\n'
 
-# refused_table NAME TABLE
-refused_table() {
+# faulty_table NAME TABLE FAULT
+faulty_table() {
     row "table: $1"
     put t.tsv "$2"
-    refused
+    faulty t "$3"
 }
 
 # Each spelling that is no number, as the key and as the field.
 while IFS='|' read -r name piece; do
-    refused_table "$name as the key" "1\t5\n$piece\t7\n2\t3\n"
-    refused_table "$name as the field" "1\t5\n7\t$piece\n2\t3\n"
+    faulty_table "$name as the key" "1\t5\n$piece\t7\n2\t3\n" '2: bad-number 0'
+    faulty_table "$name as the field" "1\t5\n7\t$piece\n2\t3\n" '2: bad-number 1'
 done <<'END'
 +5|+5
 007|007
@@ -213,17 +238,17 @@ digits that are no ASCII|\0331\0245
 a CR within|5\r5
 END
 
-refused_table 'one piece' '1\t5\n2\n'
-refused_table 'three pieces' '1\t5\n2\t3\t4\n'
-refused_table 'three pieces, the last empty' '1\t5\n2\t3\t\n'
-refused_table 'a blank for the tab' '1\t5\n2 3\n'
-refused_table 'an empty line in the middle' '1\t5\n\n2\t3\n'
-refused_table 'an empty line at the end' '1\t5\n\n'
-refused_table 'an empty line alone' '\n'
-refused_table 'CR LF alone' '\r\n'
-refused_table 'CR CR LF' '1\t5\r\r\n'
-refused_table 'the first line is wrong' 'x\t5\n1\t5\n'
-refused_table 'the last line is wrong and has no end' '1\t5\n2'
+faulty_table 'one piece' '1\t5\n2\n' '2: field-count'
+faulty_table 'three pieces' '1\t5\n2\t3\t4\n' '2: field-count'
+faulty_table 'three pieces, the last empty' '1\t5\n2\t3\t\n' '2: field-count'
+faulty_table 'a blank for the tab' '1\t5\n2 3\n' '2: field-count'
+faulty_table 'an empty line in the middle' '1\t5\n\n2\t3\n' '2: field-count'
+faulty_table 'an empty line at the end' '1\t5\n\n' '2: field-count'
+faulty_table 'an empty line alone' '\n' '1: field-count'
+faulty_table 'CR LF alone' '\r\n' '1: field-count'
+faulty_table 'CR CR LF' '1\t5\r\r\n' '1: bad-number 1'
+faulty_table 'the first line is wrong' 'x\t5\n1\t5\n' '1: bad-number 0'
+faulty_table 'the last line is wrong and has no end' '1\t5\n2' '2: field-count'
 
 # refused_schedule NAME TEXT
 refused_schedule() {
@@ -297,11 +322,9 @@ while IFS='|' read -r name number line; do
     refused_form "$name" "$number" "$line\n"
 done <<END
 another first word|1|programs least;
-parts 2|2|parts 2;
 parts 0|2|parts 0;
 parts 01|2|parts 01;
 another word for parts|2|part 1;
-rounds 2|3|rounds 2;
 rounds 0|3|rounds 0;
 another word for rounds|3|round 1;
 another stop|4|stop below 1;
@@ -326,7 +349,7 @@ a file name with no quotation marks|5|table t t.tsv (int, int);
 another map|7|step { state by other; reduce least; }
 another reduce|7|step { state by same; reduce greatest; }
 another source|7|step { prev by same; reduce least; }
-two sources|7|step { state by same; state by same; reduce least; }
+the state twice|7|step { state by same; state by same; reduce least; }
 END
 
 row 'program: empty'
@@ -416,7 +439,7 @@ rm s.txt t.tsv
 absent s.txt
 
 row 'program of another form before an absent schedule'
-form 2 'parts 2;\n'
+form 2 'parts 0;\n'
 rm s.txt
 refused
 
@@ -425,7 +448,7 @@ put s.txt 'nodes 2\n'
 rm t.tsv
 refused
 
-row 'an absent schedule before a table of another form'
+row 'an absent schedule before a faulty table'
 rm s.txt
 put t.tsv 'x\n'
 absent s.txt
@@ -470,12 +493,20 @@ put out/part-00001 'old'
 part "$least"
 wants_file out/part-00001 'old'
 
-row 'a refused job leaves the files in the folder'
+row 'a refused program leaves the files in the folder'
+mkdir out
+put out/part-00000 'old'
+form 2 'parts 0;\n'
+job
+wants 12 "$not_built"
+wants_file out/part-00000 'old'
+
+row 'a faulty table leaves the files in the folder'
 mkdir out
 put out/part-00000 'old'
 put t.tsv 'x\n'
 job
-wants 12 "$not_built"
+wants 3 'error: table t line 1: field-count\n'
 wants_file out/part-00000 'old'
 
 row 'standard output closed'
@@ -494,6 +525,386 @@ row 'standard output closed, and no command'
 "$haloop" >&-
 status=$?
 wants_status 8
+
+hops_lines=(
+    'program hops;'
+    'parts 2;'
+    'rounds 20;'
+    'stop exact;'
+    'table start "start.tsv" (int, int);'
+    'table links "links.tsv" (int, int);'
+    'begin start;'
+    'step { state by same; table links by same; reduce hop; }'
+    'step { prev by same; table start by same; reduce least; }'
+)
+
+# hops [NUMBER TEXT ..]: the program that follows links, with these lines in place of its own.
+hops() {
+    program hops_lines "$@"
+}
+
+# hops_row NAME: a row whose program follows two links, one after the other.
+hops_row() {
+    row "hops by $by: $1"
+    hops
+    put start.tsv '1\t0\n'
+    put links.tsv '1\t2\n2\t3\n'
+}
+
+# wants_parts PART ..: these are all part files, from part 0 on.
+wants_parts() {
+    local number=0 part files
+    for part; do
+        wants_file "out/$(printf 'part-%05d' "$number")" "$part"
+        number=$((number + 1))
+    done
+    files=(out/*)
+    [ "${#files[@]}" -eq "$number" ] || is_wrong "${#files[@]} files in out in place of $number"
+}
+
+# chain ROUNDS WORD PART ..: the job is done, ends in this round with this word, and leaves these part files.
+chain() {
+    job
+    wants 0 "rounds $1\nend $2\n"
+    shift 2
+    wants_parts "$@"
+}
+
+# repeated NUMBER TEXT
+repeated() {
+    local number text=
+    for ((number = 0; number < $1; number++)); do
+        text+=$2
+    done
+    printf '%s' "$text"
+}
+
+# tables NUMBER: as many lines of tables of different names.
+tables() {
+    local number
+    for ((number = 1; number <= $1; number++)); do
+        printf 'table t%d "start.tsv" (int, int);\\n' "$number"
+    done
+}
+
+greatest=9223372036854775807
+two_links=('2\t1\n' '1\t0\n3\t2\n')
+
+chain_rows() {
+    hops_row 'two links'
+    chain 3 fixpoint "${two_links[@]}"
+
+    hops_row 'an empty start'
+    put start.tsv ''
+    chain 2 fixpoint '' ''
+
+    hops_row 'no links'
+    put links.tsv ''
+    chain 2 fixpoint '' '1\t0\n'
+
+    hops_row 'one round'
+    hops 3 'rounds 1;\n'
+    chain 1 limit '2\t1\n' '1\t0\n'
+
+    hops_row 'one round less than a fixpoint needs'
+    hops 3 'rounds 2;\n'
+    chain 2 limit "${two_links[@]}"
+
+    hops_row 'a fixpoint in the last round'
+    hops 3 'rounds 3;\n'
+    chain 3 fixpoint "${two_links[@]}"
+
+    hops_row '10000 rounds, and a fixpoint before'
+    hops 3 'rounds 10000;\n'
+    chain 3 fixpoint "${two_links[@]}"
+
+    hops_row 'links in a ring'
+    put links.tsv '3\t1\n1\t2\n2\t3\n'
+    chain 3 fixpoint "${two_links[@]}"
+
+    hops_row 'the shorter of two ways'
+    put links.tsv '1\t2\n2\t3\n1\t3\n'
+    chain 2 fixpoint '2\t1\n' '1\t0\n3\t1\n'
+
+    hops_row 'numbers that go no further'
+    put start.tsv "1\t$greatest\n"
+    chain 3 fixpoint "2\t$greatest\n" "1\t$greatest\n3\t$greatest\n"
+
+    hops_row 'CR LF, and no line end at the last line'
+    put links.tsv '1\t2\r\n2\t3'
+    chain 3 fixpoint "${two_links[@]}"
+
+    hops_row '64 parts'
+    hops 2 'parts 64;\n'
+    local parts=('' '1\t0\n' '2\t1\n' '3\t2\n') number
+    for number in {4..63}; do
+        parts[number]=''
+    done
+    chain 3 fixpoint "${parts[@]}"
+
+    hops_row '16 tables'
+    hops 6 "${hops_lines[5]}\n$(tables 14)"
+    chain 3 fixpoint "${two_links[@]}"
+
+    hops_row '8 steps'
+    hops 9 "${hops_lines[8]}\n$(repeated 6 'step { prev by same; reduce least; }\n')"
+    chain 3 fixpoint "${two_links[@]}"
+
+    hops_row '8 sources'
+    hops 9 "step { prev by same;$(repeated 7 ' table start by same;') reduce least; }\n"
+    chain 3 fixpoint "${two_links[@]}"
+
+    hops_row 'a file of two tables'
+    hops 6 "${hops_lines[5]}\ntable more \"links.tsv\" (int, int);\n" \
+        8 'step { state by same; table more by same; reduce hop; }\n'
+    chain 3 fixpoint "${two_links[@]}"
+
+    # What hop emits stands in the part of the key that it was emitted for, in the order of those keys.
+    hops_row 'a last step that emits other keys'
+    hops 3 'rounds 1;\n' 9 ''
+    put start.tsv '3\t0\n1\t0\n'
+    put links.tsv '3\t2\n1\t9\n1\t8\n'
+    chain 1 limit '' '8\t1\n9\t1\n2\t1\n'
+
+    hops_row 'each number with each link'
+    hops 3 'rounds 1;\n' 9 ''
+    put start.tsv '1\t5\n1\t0\n'
+    put links.tsv '1\t9\n1\t8\n'
+    chain 1 limit '' '8\t1\n9\t1\n8\t6\n9\t6\n'
+
+    hops_row 'a last step that comes to emit nothing'
+    hops 9 ''
+    chain 4 fixpoint '' ''
+
+    hops_row 'a fixpoint of records that changed their part'
+    hops 9 ''
+    put start.tsv "2\t$greatest\n"
+    put links.tsv '1\t1\n2\t1\n'
+    chain 2 fixpoint '' "1\t$greatest\n"
+
+    hops_row 'a fixpoint of records in another order'
+    hops 2 'parts 1;\n' 9 ''
+    put start.tsv "5\t$greatest\n6\t$greatest\n"
+    put links.tsv '1\t1\n2\t2\n5\t2\n6\t1\n'
+    chain 2 fixpoint "1\t$greatest\n2\t$greatest\n"
+
+    row "every by $by: a table is added in each round"
+    form 3 'rounds 3;\n' 7 'step { state by same; table t by same; reduce every; }\n'
+    put t.tsv '1\t2\n'
+    chain 3 limit '1\t2\n1\t2\n1\t2\n1\t2\n'
+
+    row "every by $by: the state alone, with a record twice"
+    form 3 'rounds 5;\n' 7 'step { state by same; reduce every; }\n'
+    put t.tsv '2\t7\n1\t5\n2\t3\n1\t5\n'
+    chain 2 fixpoint '1\t5\n1\t5\n2\t3\n2\t7\n'
+
+    row "every by $by: streams in order, and keys of one alone"
+    form 5 "${form_lines[4]}\ntable u \"u.tsv\" (int, int);\n" \
+        7 'step { state by same; table u by same; reduce every; }\n'
+    put t.tsv '1\t5\n1\t3\n2\t6\n'
+    put u.tsv '1\t4\n0\t9\n'
+    chain 1 limit '0\t9\n1\t3\n1\t5\n1\t4\n2\t6\n'
+
+    row "least by $by: of two tables"
+    form 5 "${form_lines[4]}\ntable u \"u.tsv\" (int, int);\n" \
+        7 'step { state by same; table u by same; reduce least; }\n'
+    put t.tsv '1\t5\n1\t3\n2\t6\n3\t-1\n'
+    put u.tsv '1\t4\n2\t-7\n0\t9\n'
+    chain 1 limit '0\t9\n1\t3\n2\t-7\n3\t-1\n'
+
+    row "parts by $by: keys below 0"
+    form 2 'parts 3;\n'
+    put t.tsv "5\t0\n-4\t0\n$greatest\t0\n-3\t0\n-1\t0\n0\t0\n-2\t0\n-9223372036854775808\t0\n"
+    chain 1 limit '-3\t0\n0\t0\n' "-9223372036854775808\t0\n-2\t0\n$greatest\t0\n" '-4\t0\n-1\t0\n5\t0\n'
+
+    hops_row 'files that lay in the folder'
+    mkdir out
+    put out/part-00001 'old'
+    put out/part-00002 'old'
+    job
+    wants 0 'rounds 3\nend fixpoint\n'
+    wants_parts "${two_links[@]}" 'old'
+
+    hops_row 'a folder in place of a part file'
+    hops 2 'parts 3;\n'
+    mkdir -p out/part-00001
+    at_device
+    wants_file out/part-00000 '3\t2\n'
+    [ -d out/part-00001 ] || is_wrong 'out/part-00001 is gone'
+    wants_none out/part-00002
+}
+
+table_rows() {
+    hops_row 'a plus sign in line 3 of the links'
+    put links.tsv '1\t2\r\n2\t3\n3\t+5'
+    faulty links '3: bad-number 1'
+
+    hops_row 'zeros in front in line 2 of the links'
+    put links.tsv '1\t2\r\n007\t3\n'
+    faulty links '2: bad-number 0'
+
+    hops_row 'one piece in line 2 of the links'
+    put links.tsv '1\t2\r\n2'
+    faulty links '2: field-count'
+
+    hops_row 'a fault in both tables'
+    put start.tsv '1\t0\n1\tx\n'
+    put links.tsv '1\n'
+    faulty start '2: bad-number 1'
+
+    hops_row 'a fault in a table that no step reads'
+    hops 6 "${hops_lines[5]}\ntable more \"more.tsv\" (int, int);\n"
+    put more.tsv '\n'
+    faulty more '1: field-count'
+
+    hops_row 'an absent table'
+    rm links.tsv
+    absent links.tsv
+
+    hops_row 'a fault before an absent table'
+    put start.tsv '1\n'
+    rm links.tsv
+    faulty start '1: field-count'
+
+    hops_row 'an absent table before a fault'
+    rm start.tsv
+    put links.tsv '1\n'
+    absent start.tsv
+
+    hops_row 'a folder in place of a table'
+    rm links.tsv
+    mkdir links.tsv
+    at_device
+    wants_none out
+
+    hops_row 'a line of 1,000,000 tabs'
+    head -c 1000000 /dev/zero | tr '\0' '\t' >links.tsv
+    faulty links '1: field-count'
+
+    hops_row 'a number of 1,000 digits'
+    put links.tsv "1\t2\n$(repeated 1000 9)\t3\n"
+    faulty links '2: bad-number 0'
+
+    hops_row 'a NUL byte in a number'
+    put links.tsv '1\t2\n2\t3\00003\n'
+    faulty links '2: bad-number 1'
+}
+
+# refused_hops NAME NUMBER TEXT: another line in the program.
+refused_hops() {
+    hops_row "$1"
+    hops "$2" "$3"
+    refused
+}
+
+program_rows() {
+    local name number line
+    while IFS='|' read -r name number line; do
+        refused_hops "$name" "$number" "$line\n"
+    done <<'END'
+parts 0|2|parts 0;
+parts 65|2|parts 65;
+parts 01|2|parts 01;
+parts +2|2|parts +2;
+parts above 32 bits|2|parts 4294967298;
+parts above 64 bits|2|parts 18446744073709551618;
+rounds 0|3|rounds 0;
+rounds 10001|3|rounds 10001;
+rounds 020|3|rounds 020;
+rounds above 32 bits|3|rounds 4294967316;
+rounds above 64 bits|3|rounds 18446744073709551636;
+a cache|4|stop exact;\ncache reducer_input;
+another stop|4|stop below 1;
+two tables of one name|6|table links "links.tsv" (int, int);\ntable start "links.tsv" (int, int);
+another table at the beginning|7|begin stars;
+a table behind the beginning|7|begin start;\ntable more "links.tsv" (int, int);
+another table in a step|8|step { state by same; table link by same; reduce hop; }
+a table in one round|8|step { state by same; table links round 1 by same; reduce hop; }
+another map in a step|8|step { state by same; table links by other; reduce hop; }
+another reduce in a step|8|step { state by same; table links by same; reduce most; }
+no blank between sources|8|step { state by same;table links by same; reduce hop; }
+two blanks between sources|8|step { state by same;  table links by same; reduce hop; }
+hop of one source|8|step { state by same; reduce hop; }
+hop of one source in the second step|9|step { prev by same; reduce hop; }
+hop of three sources|8|step { state by same; table links by same; table start by same; reduce hop; }
+the step before in the first step|8|step { prev by same; table links by same; reduce hop; }
+the state in the second step|9|step { state by same; table start by same; reduce least; }
+the state behind the step before|9|step { prev by same; state by same; reduce least; }
+a table in place of the state|8|step { table start by same; table links by same; reduce hop; }
+a partition|9|step { prev by same; table start by same; reduce least; partition whole; }
+END
+
+    refused_hops 'no LF at the end' 9 "${hops_lines[8]}"
+    refused_hops 'no step' 8 '' 9 ''
+    refused_hops '17 tables' 6 "${hops_lines[5]}\n$(tables 15)"
+    refused_hops '9 sources' 9 "step { prev by same;$(repeated 8 ' table start by same;') reduce least; }\n"
+    refused_hops '9 steps' 9 "$(repeated 8 'step { prev by same; reduce least; }\n')"
+    refused_hops '30,000 tables' 6 "${hops_lines[5]}\n$(tables 30000)"
+    refused_hops '30,000 sources' 9 "step { prev by same;$(repeated 30000 ' table start by same;') reduce least; }\n"
+    refused_hops '30,000 steps' 9 "$(repeated 30000 'step { prev by same; reduce least; }\n')"
+}
+
+for by in run plain; do
+    chain_rows
+    table_rows
+    program_rows
+done
+
+# What the two commands do not share.
+
+by=plain
+
+row 'plain: one job'
+part "$least"
+
+hops_row 'no schedule'
+rm s.txt
+chain 3 fixpoint "${two_links[@]}"
+
+hops_row 'another schedule'
+put s.txt 'nodes 2\n'
+chain 3 fixpoint "${two_links[@]}"
+
+hops_row 'an absent program'
+rm p.hal
+absent p.hal
+
+hops_row 'standard output full'
+"$haloop" plain p.hal out >/dev/full
+status=$?
+wants_status 8
+wants_parts "${two_links[@]}"
+
+hops_row 'a table of 10,000,001 lines, in 4 GiB'
+yes $'1\t2' | head -n 10000001 >links.tsv
+(
+    ulimit -v $((4 * 1024 * 1024))
+    seconds=60
+    job
+    exit "$status"
+)
+status=$?
+wants 3 'error: table links line 10000001: limit\n'
+wants_none out
+
+by=run
+
+usage_row 'plain alone' plain
+usage_row 'plain and one word' plain p.hal
+usage_row 'plain and three words' plain p.hal s.txt out
+usage_row 'plain with an empty program' plain '' out
+usage_row 'plain with an empty folder' plain p.hal ''
+usage_row 'a capital letter in plain' Plain p.hal out
+usage_row 'a longer plain' plains p.hal out
+
+row 'the example of hops'
+cp -r "$top/examples" .
+call run examples/hops/reports.hal examples/hops/one-node.txt out
+wants 0 'rounds 5\nend fixpoint\n'
+diff -r examples/hops/expected out >/dev/null || is_wrong 'the part files of run are not the expected ones'
+call plain examples/hops/reports.hal plain
+wants 0 'rounds 5\nend fixpoint\n'
+diff -r examples/hops/expected plain >/dev/null || is_wrong 'the part files of plain are not the expected ones'
 
 end_row
 echo "$passed passed, $failed failed"

@@ -1,4 +1,5 @@
+pub mod CommandLaws
 pub mod InputLaws
-pub mod ReadingLaws
+pub mod OutputLaws
 pub mod TopLaws
 pub mod WordLaws

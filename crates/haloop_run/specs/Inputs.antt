@@ -1,50 +1,60 @@
--- What the files hold for a run, and which of them, in the order program, schedule, table, is the first that is absent or refused.
-use Rattle.std.specs.Prelude.{◌≡◌, ◌≢◌, ℕ, ◌⊎◌, List, [], ◌∷◌, None, Some}
+-- What the files come to, read in order: the program, the schedule where one is asked for, the tables.
+use Rattle.std.specs.Prelude.{◌≡◌, ◌≢◌, ℕ, ◌⊎◌, List, [], ◌∷◌, ◌++◌, Option, None, Some, codes}
 use Rattle.std.specs.FinMap as map
-use Rattle.hal_base.specs.declared.value.Kind.TheVariants as kind
 use Rattle.hal_base.specs.declared.record.Record.{Record}
-use Rattle.hal_base.specs.declared.fields.Schema.{Schema}
+use Rattle.hal_base.specs.declared.table.TableFault.{TableFault}
+use Rattle.hal_base.specs.declared.table.TableFault.TheVariants as fault
 use Rattle.hal_base.specs.Lines.{StandsFor}
+use Rattle.hal_base.specs.TableFaults.{HasTableFault}
 use Rattle.hal_outside.specs.Told.{FileMap}
+use Rattle.program_form.specs.declared.form.Form.{Form}
+use Rattle.program_form.specs.declared.form.TableForm.{TableForm}
+use Rattle.program_form.specs.Forms.{IsForm}
+use Rattle.program_form.specs.Shapes.{pairs}
 use Rattle.haloop_run.specs.Words.{Asked}
-use Rattle.haloop_run.specs.Form.{Form, IsForm, schedule_text}
 
--- the schema of the form's table: a number and a number
-abbrev pub pairs : Schema
-pairs = record { key = kind.Int; fields = kind.Int ∷ [] }
+-- the one schedule: one node and no events
+abbrev pub schedule_text : List ℕ
+schedule_text = codes "nodes 1\n"
 
--- the program's file is there, and its text is of the form
-pub record HasProgram (files : FileMap) (asked : Asked) (form : Form) : Type 0 where
-  pub text : List ℕ
-  pub there : map.get files asked.program ≡ Some text
-  pub is_form : IsForm text form
+-- what the input comes to: it is accepted, or this file is absent, or program or schedule are of a form that is not built, or this table has a fault
+pub data Outcome : Type 0 where
+  accepted : Form → List (List Record) → Outcome
+  absent : List ℕ → Outcome
+  not_built : Outcome
+  bad_table : List ℕ → TableFault → Outcome
 
--- the schedule's file is there, and its text is the one schedule
-abbrev pub HasSchedule : FileMap → Asked → Type 0
-HasSchedule files asked = map.get files asked.schedule ≡ Some schedule_text
+-- the file of a table, if it is there, stands for records, and then it is as the rest says, or it has a fault
+abbrev pub TableComesTo : (List Record → Type 0) → TableForm → Option (List ℕ) → Outcome → Type 0
+TableComesTo rest table None it = it ≡ absent table.file
+TableComesTo rest table (Some bytes) it =
+    ((rows : List Record) × StandsFor pairs bytes rows × rest rows)
+    ⊎ ((what : TableFault) × HasTableFault pairs bytes what × (what ≢ fault.Memory) × (it ≡ bad_table table.name what))
 
--- the table's file is there, and stands for these records
-pub record HasTable (files : FileMap) (form : Form) (rows : List Record) : Type 0 where
-  pub bytes : List ℕ
-  pub there : map.get files form.file ≡ Some bytes
-  pub stands : StandsFor pairs bytes rows
+-- the tables from here on, where those before are accepted
+abbrev pub TablesComeTo : FileMap → Form → List TableForm → List (List Record) → Outcome → Type 0
+TablesComeTo files form [] before it = it ≡ accepted form before
+TablesComeTo files form (table ∷ tables) before it =
+    TableComesTo (λ rows. TablesComeTo files form tables (before ++ rows ∷ []) it) table (map.get files table.file) it
 
--- all three are there and accepted
-pub record IsAccepted (files : FileMap) (asked : Asked) (form : Form) (rows : List Record) : Type 0 where
-  pub program : HasProgram files asked form
-  pub schedule : HasSchedule files asked
-  pub table : HasTable files form rows
+-- the schedule's file, if it is there, has the one schedule, and then it is as the rest says
+abbrev pub ScheduleComesTo : Type 0 → List ℕ → Option (List ℕ) → Outcome → Type 0
+ScheduleComesTo rest name None it = it ≡ absent name
+ScheduleComesTo rest name (Some text) it = ((text ≡ schedule_text) × rest) ⊎ ((text ≢ schedule_text) × (it ≡ not_built))
 
--- the first that is not accepted is not there, and has this name
-abbrev pub FirstAbsent : FileMap → Asked → List ℕ → Type 0
-FirstAbsent files asked name =
-    ((map.get files asked.program ≡ None) × (name ≡ asked.program))
-    ⊎ ((form : Form) × HasProgram files asked form × (map.get files asked.schedule ≡ None) × (name ≡ asked.schedule))
-    ⊎ ((form : Form) × HasProgram files asked form × HasSchedule files asked × (map.get files form.file ≡ None) × (name ≡ form.file))
+-- the schedule, where one is asked for
+abbrev pub AskedScheduleComesTo : Type 0 → FileMap → Option (List ℕ) → Outcome → Type 0
+AskedScheduleComesTo rest files None it = rest
+AskedScheduleComesTo rest files (Some name) it = ScheduleComesTo rest name (map.get files name) it
 
--- the first that is not accepted is there: a program of another form, another schedule, or no table
-abbrev pub FirstRefused : FileMap → Asked → Type 0
-FirstRefused files asked =
-    ((text : List ℕ) × (map.get files asked.program ≡ Some text) × ((form : Form) → IsForm text form → ⊥))
-    ⊎ ((form : Form) × HasProgram files asked form × (text : List ℕ) × (map.get files asked.schedule ≡ Some text) × (text ≢ schedule_text))
-    ⊎ ((form : Form) × HasProgram files asked form × HasSchedule files asked × (bytes : List ℕ) × (map.get files form.file ≡ Some bytes) × ((rows : List Record) → StandsFor pairs bytes rows → ⊥))
+-- the program's file, if it is there, is of the form, and then it is as the rest says
+abbrev pub ProgramComesTo : (Form → Type 0) → List ℕ → Option (List ℕ) → Outcome → Type 0
+ProgramComesTo rest name None it = it ≡ absent name
+ProgramComesTo rest name (Some text) it =
+    ((form : Form) × IsForm text form × rest form)
+    ⊎ (((form : Form) → IsForm text form → ⊥) × (it ≡ not_built))
+
+-- what the input comes to
+abbrev pub ComesTo : FileMap → Asked → Outcome → Type 0
+ComesTo files asked it =
+    ProgramComesTo (λ form. AskedScheduleComesTo (TablesComeTo files form form.tables [] it) files asked.schedule it) asked.program (map.get files asked.program) it

@@ -1,5 +1,3 @@
-pub mod Form
-pub mod FormReading
 pub mod Inputs
 pub mod Outputs
 pub mod Statuses

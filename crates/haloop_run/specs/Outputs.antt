@@ -1,63 +1,63 @@
--- What a run leaves: its part files, and its lines on the sink.
-use Rattle.std.specs.Prelude.{◌≡◌, ℕ, true, false, ◌⊎◌, List, [], ◌∷◌, ◌++◌, Option, None, Some, IfSome, codes, take}
+-- What a command leaves: its part files, and its lines on the sink.
+use Rattle.std.specs.Prelude.{◌≡◌, ℕ, ◌+◌, ◌%◌, ◌/◌, ◌⊎◌, List, [], ◌∷◌, ◌++◌, Option, None, Some, codes, decimal, take}
 use Rattle.std.specs.FinMap as map
 use Rattle.std.specs.Option.{option_map}
 use Rattle.hal_base.specs.declared.record.Record.{Record}
-use Rattle.hal_base.specs.declared.shape.Origin.TheVariants as origin
-use Rattle.hal_base.specs.declared.shape.Shape.{Shape}
-use Rattle.hal_base.specs.Meaning.{Meaning}
-use Rattle.hal_outside.specs.Told.{FileMap, AfterFailedAppend}
-use Rattle.plain_job.specs.Ends.{IsChain, limit}
-use Rattle.predefined_functions.specs.declared.predefined.Reduce.TheVariants.{Least}
-use Rattle.predefined_functions.specs.Meanings.{predefined_meaning}
-use Rattle.haloop_run.specs.Words.{Asked, IsRun, IsUsage}
-use Rattle.haloop_run.specs.Form.{Form}
-use Rattle.haloop_run.specs.Inputs.{pairs, FirstAbsent, FirstRefused, IsAccepted}
+use Rattle.hal_base.specs.declared.line.LineFault.{LineFault}
+use Rattle.hal_base.specs.declared.line.LineFault.TheVariants.{FieldCount, BadNumber, BadText}
+use Rattle.hal_base.specs.declared.line.LineFault.TheVariants as line
+use Rattle.hal_base.specs.declared.table.TableFault.{TableFault}
+use Rattle.hal_base.specs.declared.table.TableFault.TheVariants.{Line, TooMany}
+use Rattle.hal_base.specs.declared.table.TableFault.TheVariants as table
+use Rattle.hal_outside.specs.Told.{FileMap}
+use Rattle.plain_job.specs.Ends.{IsChain, Ending, ending_text}
+use Rattle.program_form.specs.declared.form.Form.{Form}
+use Rattle.program_form.specs.Shapes.{meaning_of, shape_of}
+use Rattle.haloop_run.specs.Words.{Asked}
+use Rattle.haloop_run.specs.Inputs.{accepted, ComesTo}
 
--- the functions of the form: the map `same`, the reduce `least`, and one part
-abbrev pub form_meaning : Meaning
-form_meaning = predefined_meaning 1 (Least ∷ [])
+-- the last digit of a number
+abbrev pub digit : ℕ → ℕ
+digit n = 48 + n % 10
 
--- the shape of the form: one table, one part, one round, and one step that reads the state
-abbrev pub form_shape : Shape
-form_shape = record {
-  parts = 1;
-  rounds = 1;
-  exact = true;
-  threshold = 1;
-  start = 0;
-  tables = pairs ∷ [];
-  blocks = [];
-  steps = record { sources = record { from = origin.State; stream = pairs; reducer_input = false; mapper_input = false } ∷ []; out = pairs } ∷ [];
-  reducer_output = false;
-}
+-- the name of a part file: the folder, and the number of the part in five digits
+abbrev pub part_name : List ℕ → ℕ → List ℕ
+part_name out part =
+    out ++ codes "/part-" ++ digit (part / 10000) ∷ digit (part / 1000) ∷ digit (part / 100) ∷ digit (part / 10) ∷ digit part ∷ []
 
--- the name of part file 0 in a folder
-abbrev pub part_name : List ℕ → List ℕ
-part_name out = out ++ codes "/part-00000"
+-- the files with these texts written as part files, of which the first has number n
+abbrev pub with_parts : List ℕ → ℕ → List (List ℕ) → FileMap → FileMap
+with_parts out n [] files = files
+with_parts out n (text ∷ texts) files = with_parts out (n + 1) texts (map.insert files (part_name out n) text)
 
--- the text is that of part 0 of the unrolled chain over this table, which ends in round 1 with `limit`
-abbrev pub IsPartText : List Record → List ℕ → Type 0
-IsPartText rows text = IsChain form_meaning form_shape (rows ∷ []) (text ∷ []) 1 limit
+-- these are the first of the texts, of which the last may be there in part
+abbrev pub AreFirstOf : List (List ℕ) → List (List ℕ) → Type 0
+AreFirstOf texts [] = Unit {0}
+AreFirstOf [] (written ∷ more) = ⊥
+AreFirstOf (text ∷ texts) (written ∷ more) = ((written ≡ text) × AreFirstOf texts more) ⊎ ((more ≡ []) × (n : ℕ) × (written ≡ take n text))
 
--- the input is accepted, and the files are as before but for the part file, which has the text of the chain's part
-pub record Leaves (asked : Asked) (before after : FileMap) : Type 0 where
+-- the input is accepted, and its chain ends in this round, in this way, with these texts of its parts
+pub record Chained (files : FileMap) (asked : Asked) (rounds : ℕ) (word : Ending) (texts : List (List ℕ)) : Type 0 where
   pub form : Form
-  pub rows : List Record
-  pub text : List ℕ
-  pub accepted : IsAccepted before asked form rows
-  pub chain : IsPartText rows text
-  pub changed : after ≡ map.insert before (part_name asked.out) text
+  pub tables : List (List Record)
+  pub accepts : ComesTo files asked (accepted form tables)
+  pub chain : IsChain (meaning_of form) (shape_of form) tables texts rounds word
 
--- the same with a prefix of that text
+-- the files are as before, but for the part files, which have the texts of the chain's parts
+pub record Leaves (asked : Asked) (rounds : ℕ) (word : Ending) (before after : FileMap) : Type 0 where
+  pub texts : List (List ℕ)
+  pub chained : Chained before asked rounds word texts
+  pub changed : after ≡ with_parts asked.out 0 texts before
+
+-- the files are as before, but for the first of the part files, of which the last may be there in part
 pub record LeavesPart (asked : Asked) (before after : FileMap) : Type 0 where
-  pub form : Form
-  pub rows : List Record
-  pub text : List ℕ
-  pub accepted : IsAccepted before asked form rows
-  pub chain : IsPartText rows text
-  pub written : ℕ
-  pub changed : after ≡ map.insert before (part_name asked.out) (take written text)
+  pub rounds : ℕ
+  pub word : Ending
+  pub texts : List (List ℕ)
+  pub chained : Chained before asked rounds word texts
+  pub written : List (List ℕ)
+  pub first : AreFirstOf texts written
+  pub changed : after ≡ with_parts asked.out 0 written before
 
 -- a relation of what the files told before and after, where they tell
 abbrev pub OnTold : (FileMap → FileMap → Type 0) → Option FileMap → Option FileMap → Type 0
@@ -65,13 +65,13 @@ OnTold P None after = after ≡ None
 OnTold P (Some before) None = ⊥
 OnTold P (Some before) (Some after) = P before after
 
--- the files are as before, or the input is accepted and the part file has a prefix of its text
+-- the files are as before, or some of the part files are written
 abbrev pub LeavesSome : Asked → Option FileMap → Option FileMap → Type 0
 LeavesSome asked before after = (after ≡ before) ⊎ OnTold (LeavesPart asked) before after
 
--- the lines of a run that is done
-abbrev pub report : List ℕ
-report = codes "rounds 1\nend limit\n"
+-- the lines of a command that is done
+abbrev pub report : ℕ → Ending → List ℕ
+report rounds word = codes "rounds " ++ decimal rounds ++ codes "\nend " ++ ending_text word ++ codes "\n"
 
 abbrev pub usage_line : List ℕ
 usage_line = codes "error: usage: haloop run PROGRAM SCHEDULE OUT [journal=FILE] | plain PROGRAM OUT | check PROGRAM | demo N SEED\n"
@@ -82,6 +82,22 @@ absent_line name = codes "error: file " ++ name ++ codes " absent\n"
 abbrev pub not_built_line : List ℕ
 not_built_line = codes "error: form not built\n"
 
+-- the words of a fault of a line
+abbrev pub line_fault_text : LineFault → List ℕ
+line_fault_text FieldCount = codes "field-count"
+line_fault_text (BadNumber field) = codes "bad-number " ++ decimal field
+line_fault_text (BadText field) = codes "bad-text " ++ decimal field
+line_fault_text line.Memory = codes "memory"
+
+-- the words of a fault of a table: its line, and what is wrong there
+abbrev pub table_fault_text : TableFault → List ℕ
+table_fault_text (Line n what) = decimal n ++ codes ": " ++ line_fault_text what
+table_fault_text (TooMany n) = decimal n ++ codes ": limit"
+table_fault_text table.Memory = codes "memory"
+
+abbrev pub table_line : List ℕ → TableFault → List ℕ
+table_line name what = codes "error: table " ++ name ++ codes " line " ++ table_fault_text what ++ codes "\n"
+
 abbrev pub device_line : List ℕ
 device_line = codes "error: device\n"
 
@@ -91,17 +107,3 @@ memory_line = codes "error: memory\n"
 -- what the sink tells has gained these bytes
 abbrev pub Gained : Option (List ℕ) → List ℕ → Option (List ℕ) → Type 0
 Gained before bytes after = after ≡ option_map (λ held. held ++ bytes) before
-
--- a line that is due: the report of a run that is done, or the line of what hindered it
-abbrev pub IsDue : List (List ℕ) → Option FileMap → Option FileMap → Type 0 → List ℕ → Type 0
-IsDue words before after faults line =
-    ((line ≡ report) × (asked : Asked) × IsRun words asked × OnTold (Leaves asked) before after)
-    ⊎ ((line ≡ usage_line) × IsUsage words)
-    ⊎ ((asked : Asked) × IsRun words asked × (name : List ℕ) × (line ≡ absent_line name) × IfSome before (λ files. FirstAbsent files asked name))
-    ⊎ ((asked : Asked) × IsRun words asked × (line ≡ not_built_line) × IfSome before (λ files. FirstRefused files asked))
-    ⊎ ((line ≡ device_line) × faults)
-    ⊎ (line ≡ memory_line)
-
--- it has gained a prefix of a line that is due
-abbrev pub GainedDue : List (List ℕ) → Option FileMap → Option FileMap → Type 0 → Option (List ℕ) → Option (List ℕ) → Type 0
-GainedDue words before after faults held holds = (line : List ℕ) × IsDue words before after faults line × AfterFailedAppend held line holds

@@ -1,19 +1,25 @@
 -- The words of a command.
-use Rattle.std.specs.Prelude.{◌≡◌, ◌≢◌, ℕ, List, [], ◌∷◌, codes}
+use Rattle.std.specs.Prelude.{◌≡◌, ◌≢◌, ℕ, List, [], ◌∷◌, Option, None, Some, codes}
+use Rattle.std.specs.Option.{IfSome}
 
--- what `run` is asked: the names of the program's file, of the schedule's file and of the folder for the part files
+-- what is asked: the names of the program's file, of the schedule's file for `run` and of none for `plain`, and of the folder for the part files
 pub record Asked : Type 0 where
   pub program : List ℕ
-  pub schedule : List ℕ
+  pub schedule : Option (List ℕ)
   pub out : List ℕ
 
+-- the words that ask for this
+abbrev pub words_of : List ℕ → Option (List ℕ) → List ℕ → List (List ℕ)
+words_of program None out = codes "plain" ∷ program ∷ out ∷ []
+words_of program (Some schedule) out = codes "run" ∷ program ∷ schedule ∷ out ∷ []
+
 -- the words ask for this
-pub record IsRun (words : List (List ℕ)) (asked : Asked) : Type 0 where
-  pub spelled : words ≡ codes "run" ∷ asked.program ∷ asked.schedule ∷ asked.out ∷ []
+pub record AskFor (words : List (List ℕ)) (asked : Asked) : Type 0 where
+  pub spelled : words ≡ words_of asked.program asked.schedule asked.out
   pub program_named : asked.program ≢ []
-  pub schedule_named : asked.schedule ≢ []
+  pub schedule_named : IfSome asked.schedule (λ name. name ≢ [])
   pub out_named : asked.out ≢ []
 
 -- the words are those of no command
 abbrev pub IsUsage : List (List ℕ) → Type 0
-IsUsage words = (asked : Asked) → IsRun words asked → ⊥
+IsUsage words = (asked : Asked) → AskFor words asked → ⊥

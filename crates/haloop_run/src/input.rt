@@ -1,72 +1,96 @@
-ghost use Rattle.std.specs.Prelude.{◌≡◌, ◌≢◌, ◌≤◌, ℕ, List, None, Some, IfOk, IfErr, IfSome, OnOk, string_bytes};
+ghost use Rattle.std.specs.Prelude.{◌≡◌, ◌≢◌, ◌≤◌, ℕ, List, [], ◌∷◌, None, Some, IfOk, IfErr, IfSome, OnOk};
+ghost use Rattle.std.specs.Option.{option_copied};
 ghost use Rattle.std.specs.FinMap as map;
 ghost use Rattle.hal_base.specs.Lines.{StandsFor};
-ghost use Rattle.hal_base.specs.declared.record.Record.{Record as Row};
 ghost use Rattle.hal_outside.specs.Told.{Rose};
-ghost use Rattle.haloop_run.specs.Form.{Form, IsForm, schedule_text};
-ghost use Rattle.haloop_run.specs.Inputs.{FirstAbsent, FirstRefused, HasProgram, HasSchedule, HasTable, IsAccepted, pairs};
-ghost use Rattle.haloop_run.specs.Steps.{Refused};
-ghost use Rattle.haloop_run.specs.Texts.{asked_by, AbsentOf};
+ghost use Rattle.program_form.specs.Forms.{IsForm};
+ghost use Rattle.program_form.specs.Shapes as shapes;
+ghost use Rattle.haloop_run.specs.Inputs as inputs;
+ghost use Rattle.haloop_run.specs.Inputs.{ComesTo, TablesComeTo};
+ghost use Rattle.haloop_run.specs.Steps.{AbsentOf, BadTableOf, BytesRefused, HasForm, HasRows, HasSchedule, Judged, NoForm, NoRows, NoSchedule, OtherSchedule, Refused};
+ghost use Rattle.haloop_run.specs.Texts.{asked_by};
 
-use crate::form::table_file;
 use crate::refusal::Refusal;
-use crate::words::Run;
-use hal_base::{Items, Kind, Kinds, Memory, Records, Schema, TableFault, read_table};
+use crate::words::Command;
+use hal_base::{
+    CopyIn, Items, Kind, Kinds, Memory, Records, Schema, TableFault, Tables, read_table,
+};
 use hal_outside::{FileFault, Files};
+use program_form::{Form, TableForm, read_form};
 use std::alloc::Global;
 
-/// The records of the table, where program, schedule and table are accepted, in this order.
-pub(crate) fn accepted_rows<F: Files>(
-    alloc: Global,
-    run: &Run<'_>,
-    files: &mut F,
-) -> Result<Records, Refusal>
-    ensures faults_stay { F.faults files.old ≤ F.faults files.new }
-    ensures absents_stay { F.absents files.old ≤ F.absents files.new }
-    ensures kept { F.told files.new ≡ F.told files.old }
-    ensures found { IfOk result (λ rows. IfSome (F.told files.old) (λ told. (form : Form) × IsAccepted told (asked_by run.now) form rows)) }
-    ensures refused { IfErr result (λ refusal. Refused refusal
-        (λ name. IfSome (F.told files.old) (λ told. FirstAbsent told (asked_by run.now) name))
-        (IfSome (F.told files.old) (λ told. FirstRefused told (asked_by run.now)))
-        (Rose (F.faults files.old) (F.faults files.new)) (Rose (F.absents files.old) (F.absents files.new))) }
-{
-    let table = read_program(alloc, run, files)?;
-    read_schedule(alloc, run, files)?;
-    read_rows(alloc, table.as_str(), files)
+/// A program, and the records of each of its tables.
+#[derive(Drop)]
+pub(crate) struct Accepted {
+    pub(crate) form: Form,
+    pub(crate) tables: Tables,
 }
 
-/// The name of the table's file, from an accepted program.
-fn read_program<F: Files>(alloc: Global, run: &Run<'_>, files: &mut F) -> Result<String, Refusal>
+/// The program and its tables, where program, schedule and tables are accepted, in this order.
+/// docs/FORMATS.md, "Statuses".
+pub(crate) fn accepted_input<F: Files>(
+    alloc: Global,
+    command: &Command<'_>,
+    files: &mut F,
+) -> Result<Accepted, Refusal>
     ensures faults_stay { F.faults files.old ≤ F.faults files.new }
     ensures absents_stay { F.absents files.old ≤ F.absents files.new }
     ensures kept { F.told files.new ≡ F.told files.old }
-    ensures found { IfOk result (λ file. IfSome (F.told files.old) (λ told. (form : Form) × HasProgram told (asked_by run.now) form × (form.file ≡ string_bytes file))) }
+    ensures good { IfOk result (λ input. (text : List ℕ) × IsForm text input.form) }
+    ensures found { IfOk result (λ input. IfSome (F.told files.old) (λ told. Judged (ComesTo told (asked_by command.now)) (inputs.accepted input.form input.tables))) }
     ensures refused { IfErr result (λ refusal. Refused refusal
-        (λ name. (name ≡ run.now.program.now) × IfSome (F.told files.old) (λ told. map.get told run.now.program.now ≡ None))
-        (IfSome (F.told files.old) (λ told. (text : List ℕ) × (map.get told run.now.program.now ≡ Some text) × ((form : Form) → IsForm text form → ⊥)))
+        (λ it. IfSome (F.told files.old) (λ told. Judged (ComesTo told (asked_by command.now)) it))
         (Rose (F.faults files.old) (F.faults files.new)) (Rose (F.absents files.old) (F.absents files.new))) }
 {
-    let text = read_file(alloc, run.program, files)?;
-    match table_file(text.as_slice()) {
-        Some(file) => match String::from_str(alloc, file) {
-            Ok(file) => Ok(file),
-            Err(_) => Err(Refusal::Memory),
-        },
+    let form = read_program(alloc, command.program, files)?;
+    read_schedule(alloc, command.schedule, files)?;
+    let tables = read_tables(alloc, &form, files)?;
+    Ok(Accepted { form, tables })
+}
+
+fn read_program<F: Files>(alloc: Global, name: &str, files: &mut F) -> Result<Form, Refusal>
+    ensures faults_stay { F.faults files.old ≤ F.faults files.new }
+    ensures absents_stay { F.absents files.old ≤ F.absents files.new }
+    ensures kept { F.told files.new ≡ F.told files.old }
+    ensures good { IfOk result (λ form. (text : List ℕ) × IsForm text form) }
+    ensures found { IfOk result (λ form. IfSome (F.told files.old) (λ told. HasForm told name.now form)) }
+    ensures refused { IfErr result (λ refusal. Refused refusal
+        (λ it. IfSome (F.told files.old) (λ told. NoForm told name.now it))
+        (Rose (F.faults files.old) (F.faults files.new)) (Rose (F.absents files.old) (F.absents files.new))) }
+{
+    let text = read_file(alloc, name, files)?;
+    match read_form(alloc, text.as_slice())? {
+        Some(form) => Ok(form),
         None => Err(Refusal::NotBuilt),
     }
 }
 
-fn read_schedule<F: Files>(alloc: Global, run: &Run<'_>, files: &mut F) -> Result<(), Refusal>
+/// Whether the schedule that is asked for is the one that is built.
+fn read_schedule<F: Files>(alloc: Global, asked: Option<&str>, files: &mut F) -> Result<(), Refusal>
     ensures faults_stay { F.faults files.old ≤ F.faults files.new }
     ensures absents_stay { F.absents files.old ≤ F.absents files.new }
     ensures kept { F.told files.new ≡ F.told files.old }
-    ensures found { OnOk result (IfSome (F.told files.old) (λ told. HasSchedule told (asked_by run.now))) }
+    ensures found { OnOk result (IfSome (F.told files.old) (λ told. HasSchedule told (option_copied asked.entry))) }
     ensures refused { IfErr result (λ refusal. Refused refusal
-        (λ name. (name ≡ run.now.schedule.now) × IfSome (F.told files.old) (λ told. map.get told run.now.schedule.now ≡ None))
-        (IfSome (F.told files.old) (λ told. (text : List ℕ) × (map.get told run.now.schedule.now ≡ Some text) × (text ≢ schedule_text)))
+        (λ it. IfSome (F.told files.old) (λ told. NoSchedule told (option_copied asked.entry) it))
         (Rose (F.faults files.old) (F.faults files.new)) (Rose (F.absents files.old) (F.absents files.new))) }
 {
-    let text = read_file(alloc, run.schedule, files)?;
+    match asked {
+        Some(name) => judge_schedule(alloc, name, files),
+        None => Ok(()),
+    }
+}
+
+fn judge_schedule<F: Files>(alloc: Global, name: &str, files: &mut F) -> Result<(), Refusal>
+    ensures faults_stay { F.faults files.old ≤ F.faults files.new }
+    ensures absents_stay { F.absents files.old ≤ F.absents files.new }
+    ensures kept { F.told files.new ≡ F.told files.old }
+    ensures found { OnOk result (IfSome (F.told files.old) (λ told. HasSchedule told (Some name.now))) }
+    ensures refused { IfErr result (λ refusal. Refused refusal
+        (λ it. IfSome (F.told files.old) (λ told. OtherSchedule told name.now it))
+        (Rose (F.faults files.old) (F.faults files.new)) (Rose (F.absents files.old) (F.absents files.new))) }
+{
+    let text = read_file(alloc, name, files)?;
     if text.as_slice() == b"nodes 1\n".as_slice() {
         Ok(())
     } else {
@@ -74,35 +98,62 @@ fn read_schedule<F: Files>(alloc: Global, run: &Run<'_>, files: &mut F) -> Resul
     }
 }
 
-fn read_rows<F: Files>(alloc: Global, name: &str, files: &mut F) -> Result<Records, Refusal>
+/// The records of each table, in the order of the program.
+fn read_tables<F: Files>(alloc: Global, form: &Form, files: &mut F) -> Result<Tables, Refusal>
     ensures faults_stay { F.faults files.old ≤ F.faults files.new }
     ensures absents_stay { F.absents files.old ≤ F.absents files.new }
     ensures kept { F.told files.new ≡ F.told files.old }
-    ensures found { IfOk result (λ rows. IfSome (F.told files.old) (λ told. (bytes : List ℕ) × (map.get told name.now ≡ Some bytes) × StandsFor pairs bytes rows)) }
+    ensures found { IfOk result (λ tables. IfSome (F.told files.old) (λ told. Judged (TablesComeTo told form.now form.now.tables []) (inputs.accepted form.now tables))) }
     ensures refused { IfErr result (λ refusal. Refused refusal
-        (λ absent. (absent ≡ name.now) × IfSome (F.told files.old) (λ told. map.get told name.now ≡ None))
-        (IfSome (F.told files.old) (λ told. (bytes : List ℕ) × (map.get told name.now ≡ Some bytes) × ((rows : List Row) → StandsFor pairs bytes rows → ⊥)))
+        (λ it. IfSome (F.told files.old) (λ told. Judged (TablesComeTo told form.now form.now.tables []) it))
         (Rose (F.faults files.old) (F.faults files.new)) (Rose (F.absents files.old) (F.absents files.new))) }
 {
-    let bytes = read_file(alloc, name, files)?;
-    rows_of(alloc, bytes.as_slice())
+    let mut tables = Tables::new(alloc);
+    'tables: for table in form.tables.as_slice() {
+        let rows = read_rows(alloc, table, files)?;
+        tables.push(rows)?;
+    }
+    Ok(tables)
 }
 
-/// The records that the bytes stand for.
-fn rows_of(alloc: Global, bytes: &[u8]) -> Result<Records, Refusal>
-    ensures found { IfOk result (StandsFor pairs bytes.now) }
-    ensures refused { IfErr result (λ refusal. Refused refusal (λ absent. ⊥) ((rows : List Row) → StandsFor pairs bytes.now rows → ⊥) ⊥ ⊥) }
+fn read_rows<F: Files>(alloc: Global, table: &TableForm, files: &mut F) -> Result<Records, Refusal>
+    ensures faults_stay { F.faults files.old ≤ F.faults files.new }
+    ensures absents_stay { F.absents files.old ≤ F.absents files.new }
+    ensures kept { F.told files.new ≡ F.told files.old }
+    ensures found { IfOk result (λ rows. IfSome (F.told files.old) (λ told. HasRows told table.now rows)) }
+    ensures refused { IfErr result (λ refusal. Refused refusal
+        (λ it. IfSome (F.told files.old) (λ told. NoRows told table.now it))
+        (Rose (F.faults files.old) (F.faults files.new)) (Rose (F.absents files.old) (F.absents files.new))) }
 {
-    let schema = number_pairs(alloc)?;
+    let bytes = read_file(alloc, table.file.as_str(), files)?;
+    rows_of(alloc, table, bytes.as_slice())
+}
+
+/// The records that the bytes of a table's file stand for.
+fn rows_of(alloc: Global, table: &TableForm, bytes: &[u8]) -> Result<Records, Refusal>
+    ensures found { IfOk result (StandsFor shapes.pairs bytes.now) }
+    ensures refused { IfErr result (λ refusal. BytesRefused refusal table.now bytes.now) }
+{
+    let schema = pairs(alloc)?;
     match read_table(alloc, bytes, &schema) {
         Ok(rows) => Ok(rows),
         Err(TableFault::Memory) => Err(Refusal::Memory),
-        Err(_) => Err(Refusal::NotBuilt),
+        Err(what) => Err(bad_table(alloc, table, what)),
     }
 }
 
-fn number_pairs(alloc: Global) -> Result<Schema, Memory>
-    ensures { IfOk result (λ schema. schema ≡ pairs) }
+fn bad_table(alloc: Global, table: &TableForm, what: TableFault) -> Refusal
+    ensures { BadTableOf table.now what result }
+{
+    match table.name.copy(alloc) {
+        Ok(name) => Refusal::BadTable { name, what },
+        Err(Memory) => Refusal::Memory,
+    }
+}
+
+/// A number as key and a number as field.
+fn pairs(alloc: Global) -> Result<Schema, Memory>
+    ensures { IfOk result (λ schema. schema ≡ shapes.pairs) }
 {
     let mut fields = Kinds::new(alloc);
     fields.push(Kind::Int)?;
@@ -119,8 +170,7 @@ fn read_file<F: Files>(alloc: Global, name: &str, files: &mut F) -> Result<Vec<u
     ensures kept { F.told files.new ≡ F.told files.old }
     ensures found { IfOk result (λ bytes. IfSome (F.told files.old) (λ told. map.get told name.now ≡ Some bytes.items)) }
     ensures refused { IfErr result (λ refusal. Refused refusal
-        (λ absent. (absent ≡ name.now) × IfSome (F.told files.old) (λ told. map.get told name.now ≡ None))
-        ⊥
+        (λ it. (it ≡ inputs.absent name.now) × IfSome (F.told files.old) (λ told. map.get told name.now ≡ None))
         (Rose (F.faults files.old) (F.faults files.new)) (Rose (F.absents files.old) (F.absents files.new))) }
 {
     match files.read(alloc, name) {

@@ -1,10 +1,9 @@
 //! The commands of `haloop`, over files and a sink that are handed in.
 #![tactic(auto)]
 
-mod form;
 mod input;
-mod job;
-mod listed;
+mod lines;
+mod output;
 mod refusal;
 mod run;
 mod top;

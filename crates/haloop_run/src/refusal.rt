@@ -1,4 +1,4 @@
-use hal_base::{Items, Memory};
+use hal_base::{Items, Memory, TableFault, Text};
 
 /// Why a command did not do what it was asked.
 #[derive(Drop)]
@@ -7,8 +7,10 @@ pub(crate) enum Refusal {
     Usage,
     /// The file of this name is not there.
     Absent(Items<u8>),
-    /// The program or the schedule is of a form that is not built yet, or the table is refused.
+    /// The program or the schedule is of a form that is not built yet.
     NotBuilt,
+    /// The file of the table of this name stands for no table.
+    BadTable { name: Text, what: TableFault },
     /// A device failed.
     Device,
     /// Want of memory.

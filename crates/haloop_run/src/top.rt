@@ -1,18 +1,21 @@
 ghost use Rattle.std.specs.Prelude.{◌≡◌, ◌≤◌, ◌⊎◌, ℕ, IfOk, IfSome, List};
-ghost use Rattle.hal_base.specs.declared.record.Record.{Record as Row};
+ghost use Rattle.hal_base.specs.declared.table.TableFault.{TableFault};
 ghost use Rattle.hal_outside.specs.Told.{Rose};
-ghost use Rattle.haloop_run.specs.Form.{Form};
-ghost use Rattle.haloop_run.specs.Inputs.{FirstAbsent, FirstRefused, IsAccepted};
-ghost use Rattle.haloop_run.specs.Outputs.{Gained, GainedDue, Leaves, LeavesPart, OnTold, absent_line, device_line, not_built_line, report, usage_line};
-ghost use Rattle.haloop_run.specs.Statuses.{Answers, IsStatus, Performed};
-ghost use Rattle.haloop_run.specs.Steps.{Answered, Came, Said};
+ghost use Rattle.plain_job.specs.Ends.{Ending};
+ghost use Rattle.haloop_run.specs.Inputs as inputs;
+ghost use Rattle.haloop_run.specs.Inputs.{ComesTo, Outcome};
+ghost use Rattle.haloop_run.specs.Outputs as outputs;
+ghost use Rattle.haloop_run.specs.Outputs.{Gained, Leaves, LeavesPart, OnTold};
+ghost use Rattle.haloop_run.specs.Statuses.{Answers, GainedDue, InputIs, IsStatus, status_of};
+ghost use Rattle.haloop_run.specs.Steps.{Answered, Came, Performed, Said};
 ghost use Rattle.haloop_run.specs.Texts.{texts};
-ghost use Rattle.haloop_run.specs.Words.{Asked, IsRun, IsUsage};
+ghost use Rattle.haloop_run.specs.Words.{Asked, AskFor, IsUsage};
 
+use crate::lines::{absent_line, report, table_line};
 use crate::refusal::Refusal;
-use crate::run::run_job;
-use crate::words::command;
-use hal_base::{Items, Memory};
+use crate::run::{Ended, perform_command};
+use crate::words::asked_command;
+use hal_base::Memory;
 use hal_outside::{Files, Sink, SinkFault};
 use std::alloc::Global;
 
@@ -20,7 +23,7 @@ use std::alloc::Global;
 ///
 /// `words` are the words after the program's name; files are read from and written to `files`, and the
 /// report or the error line goes to `out`. The statuses and their lines are in docs/FORMATS.md,
-/// "Statuses"; what a run means is in docs/SEMANTICS.md.
+/// "Statuses"; what a program means is in docs/SEMANTICS.md.
 pub fn haloop_top<F: Files, O: Sink>(
     alloc: Global,
     words: &[String],
@@ -32,33 +35,31 @@ pub fn haloop_top<F: Files, O: Sink>(
     ensures absents_stay { F.absents files.old ≤ F.absents files.new }
     ensures sink_faults_stay { O.faults out.old ≤ O.faults out.new }
 
-    // 0: the input is accepted, and only the part file is changed, to the text of the chain's part.
-    ensures done { result ≡ 0 → (asked : Asked) × IsRun (texts words.now) asked × OnTold (Leaves asked) (F.told files.old) (F.told files.new) }
-    ensures reported { result ≡ 0 → Gained (O.told out.old) report (O.told out.new) }
+    // 0: the input is accepted, and only the part files are changed, to the texts of the parts of its chain;
+    // the two lines tell the round in which the chain ends, and how.
+    ensures done { result ≡ 0 → (asked : Asked) × AskFor (texts words.now) asked × (rounds : ℕ) × (word : Ending)
+        × OnTold (Leaves asked rounds word) (F.told files.old) (F.told files.new) × Gained (O.told out.old) (outputs.report rounds word) (O.told out.new) }
 
-    // 1, 11 and 12: the words, or the first file that is absent or refused, and its line. No file is changed.
-    ensures usage { result ≡ 1 → IsUsage (texts words.now) × Gained (O.told out.old) usage_line (O.told out.new) }
+    // 1, 3, 11 and 12: the words, or the first file that is absent or refused, and its line. No file is changed.
+    ensures usage { result ≡ 1 → IsUsage (texts words.now) × Gained (O.told out.old) outputs.usage_line (O.told out.new) }
     ensures absents_rose { result ≡ 11 → Rose (F.absents files.old) (F.absents files.new) }
-    ensures absent { result ≡ 11 → (asked : Asked) × IsRun (texts words.now) asked × (name : List ℕ)
-        × IfSome (F.told files.old) (λ told. FirstAbsent told asked name) × Gained (O.told out.old) (absent_line name) (O.told out.new) }
-    ensures not_built { result ≡ 12 → (asked : Asked) × IsRun (texts words.now) asked
-        × IfSome (F.told files.old) (λ told. FirstRefused told asked) × Gained (O.told out.old) not_built_line (O.told out.new) }
-    ensures kept { (result ≡ 1) ⊎ (result ≡ 11) ⊎ (result ≡ 12) → F.told files.new ≡ F.told files.old }
+    ensures absent { result ≡ 11 → (name : List ℕ) × InputIs (texts words.now) (F.told files.old) (inputs.absent name) × Gained (O.told out.old) (outputs.absent_line name) (O.told out.new) }
+    ensures not_built { result ≡ 12 → InputIs (texts words.now) (F.told files.old) inputs.not_built × Gained (O.told out.old) outputs.not_built_line (O.told out.new) }
+    ensures bad_table { result ≡ 3 → (name : List ℕ) × (what : TableFault) × InputIs (texts words.now) (F.told files.old) (inputs.bad_table name what) × Gained (O.told out.old) (outputs.table_line name what) (O.told out.new) }
+    ensures kept { (result ≡ 1) ⊎ (result ≡ 3) ⊎ (result ≡ 11) ⊎ (result ≡ 12) → F.told files.new ≡ F.told files.old }
 
     // 8 and 10: a count of faults rose, or memory ran out, which no clause ties to anything. Where the sink
-    // failed, it has a prefix of the line that was due.
+    // failed, it has a prefix of the line that was due; the files have the first of the part files, or none.
     ensures device { result ≡ 8 → Rose (F.faults files.old) (F.faults files.new) ⊎ Rose (O.faults out.old) (O.faults out.new) }
-    ensures device_said { result ≡ 8 → (Rose (F.faults files.old) (F.faults files.new) × Gained (O.told out.old) device_line (O.told out.new))
+    ensures device_said { result ≡ 8 → (Rose (F.faults files.old) (F.faults files.new) × Gained (O.told out.old) outputs.device_line (O.told out.new))
         ⊎ (Rose (O.faults out.old) (O.faults out.new) × GainedDue (texts words.now) (F.told files.old) (F.told files.new) (Rose (F.faults files.old) (F.faults files.new)) (O.told out.old) (O.told out.new)) }
     ensures memory_said { result ≡ 10 → GainedDue (texts words.now) (F.told files.old) (F.told files.new) (Rose (F.faults files.old) (F.faults files.new)) (O.told out.old) (O.told out.new) }
     ensures partly { (result ≡ 8) ⊎ (result ≡ 10) → (F.told files.new ≡ F.told files.old)
-        ⊎ ((asked : Asked) × IsRun (texts words.now) asked × OnTold (LeavesPart asked) (F.told files.old) (F.told files.new)) }
+        ⊎ ((asked : Asked) × AskFor (texts words.now) asked × OnTold (LeavesPart asked) (F.told files.old) (F.told files.new)) }
 
     // The other direction: what the words and the files come to is answered, but for 8 and 10.
     ensures usage_answered { IsUsage (texts words.now) → Answers 1 result }
-    ensures absent_answered { IfSome (F.told files.old) (λ told. (asked : Asked) (name : List ℕ) → IsRun (texts words.now) asked → FirstAbsent told asked name → Answers 11 result) }
-    ensures not_built_answered { IfSome (F.told files.old) (λ told. (asked : Asked) → IsRun (texts words.now) asked → FirstRefused told asked → Answers 12 result) }
-    ensures accepted_answered { IfSome (F.told files.old) (λ told. (asked : Asked) (form : Form) (rows : List Row) → IsRun (texts words.now) asked → IsAccepted told asked form rows → Answers 0 result) }
+    ensures answered { IfSome (F.told files.old) (λ told. (asked : Asked) (it : Outcome) → AskFor (texts words.now) asked → ComesTo told asked it → Answers (status_of it) result) }
 {
     perform(alloc, words, files, out)
 }
@@ -75,27 +76,30 @@ fn perform<F: Files, O: Sink>(alloc: Global, words: &[String], files: &mut F, ou
 }
 
 /// Does what the words ask for, but for the lines on the sink.
-fn done<F: Files>(alloc: Global, words: &[String], files: &mut F) -> Result<(), Refusal>
+fn done<F: Files>(alloc: Global, words: &[String], files: &mut F) -> Result<Ended, Refusal>
     ensures faults_stay { F.faults files.old ≤ F.faults files.new }
     ensures absents_stay { F.absents files.old ≤ F.absents files.new }
     ensures came { Came (texts words.now) (F.told files.old) (F.told files.new) (Rose (F.faults files.old) (F.faults files.new)) (Rose (F.absents files.old) (F.absents files.new)) result }
 {
-    match command(words) {
-        Some(run) => run_job(alloc, &run, files),
+    match asked_command(words) {
+        Some(command) => perform_command(alloc, &command, files),
         None => Err(Refusal::Usage),
     }
 }
 
 /// Writes the lines of what was done, and answers the status.
-fn say<O: Sink>(alloc: Global, done: &Result<(), Refusal>, out: &mut O) -> u8
+fn say<O: Sink>(alloc: Global, done: &Result<Ended, Refusal>, out: &mut O) -> u8
     ensures sink_faults_stay { O.faults out.old ≤ O.faults out.new }
     ensures answered { Answered done.now (O.told out.old) (O.told out.new) (Rose (O.faults out.old) (O.faults out.new)) result }
 {
     match done {
-        Ok(()) => tell(out, b"rounds 1\nend limit\n", 0),
+        Ok(ended) => tell_made(out, &report(alloc, ended.rounds, ended.end), 0),
         Err(Refusal::Usage) => tell(out, USAGE, 1),
-        Err(Refusal::Absent(name)) => tell_absent(alloc, name, out),
+        Err(Refusal::Absent(name)) => tell_made(out, &absent_line(alloc, name.as_slice()), 11),
         Err(Refusal::NotBuilt) => tell(out, b"error: form not built\n", 12),
+        Err(Refusal::BadTable { name, what }) => {
+            tell_made(out, &table_line(alloc, name.as_slice(), *what), 3)
+        }
         Err(Refusal::Device) => tell(out, b"error: device\n", 8),
         Err(Refusal::Memory) => tell(out, b"error: memory\n", 10),
     }
@@ -104,23 +108,15 @@ fn say<O: Sink>(alloc: Global, done: &Result<(), Refusal>, out: &mut O) -> u8
 const USAGE: &[u8] =
     b"error: usage: haloop run PROGRAM SCHEDULE OUT [journal=FILE] | plain PROGRAM OUT | check PROGRAM | demo N SEED\n";
 
-fn tell_absent<O: Sink>(alloc: Global, name: &Items<u8>, out: &mut O) -> u8
+/// Writes a text that was made, or the line of want of memory where there was none for it.
+fn tell_made<O: Sink>(out: &mut O, made: &Result<Vec<u8>, Memory>, status: u8) -> u8
     ensures sink_faults_stay { O.faults out.old ≤ O.faults out.new }
-    ensures said { Said 11 (absent_line name.now) (O.told out.old) (O.told out.new) (Rose (O.faults out.old) (O.faults out.new)) result }
+    ensures said { (line : List ℕ) → IfOk made.now (λ text. text.items ≡ line) → Said status line (O.told out.old) (O.told out.new) (Rose (O.faults out.old) (O.faults out.new)) result }
 {
-    match absent_text(alloc, name) {
-        Ok(line) => tell(out, line.as_slice(), 11),
+    match made {
+        Ok(line) => tell(out, line.as_slice(), status),
         Err(Memory) => tell(out, b"error: memory\n", 10),
     }
-}
-
-fn absent_text(alloc: Global, name: &Items<u8>) -> Result<Vec<u8>, Memory>
-    ensures { IfOk result (λ line. line.items ≡ absent_line name.now) }
-{
-    let mut line = Vec::from_slice(alloc, b"error: file ")?;
-    line.extend_from_slice(name.as_slice())?;
-    line.extend_from_slice(b" absent\n")?;
-    Ok(line)
 }
 
 /// Writes one text, and answers the status; where the sink fails, 8 or 10 in its place.

@@ -6,6 +6,7 @@ ghost use Rattle.partition_shuffle.specs.Spills.{HaveParts, PartsWithin, dealt, 
 
 use hal_base::{Functions, Memory, Parts, Record, Records, sort_rows};
 use std::alloc::Global;
+use std::marker::Model;
 
 /// The records that the map of a source emits for these, each in the part of its key, and each part
 /// sorted.
@@ -23,9 +24,58 @@ pub fn spill<F: Functions>(
     requires within { PartsWithin (F.meaning functions.now) round step source rows.now parts }
     ensures { IfOk result (λ out. out ≡ spilled (F.meaning functions.now) round step source rows.now parts) }
 {
-    let mut out = empty_parts(alloc, parts, rows.len() / parts as usize)?;
-    deal(alloc, functions, round, step, source, rows, &mut out)?;
-    sort_parts(alloc, out)
+    let mut spilling = Spilling::new(alloc, parts, rows.len() / parts as usize)?;
+    spilling.add(alloc, functions, round, step, source, rows)?;
+    spilling.finish(alloc)
+}
+
+/// A spill in the making: the records so far, each in the part of its key, and no part sorted yet.
+#[derive(Drop)]
+pub struct Spilling {
+    parts: Vec<Records>,
+}
+
+impl Model for Spilling {
+    ghost use Rattle.std.specs.Prelude.{List};
+    ghost use Rattle.hal_base.specs.declared.record.Record.{Record as Row};
+
+    ghost Value = { List (List Row) };
+
+    ghost view = { λ spilling. spilling.parts.items };
+}
+
+impl Spilling {
+    /// So many parts with no records, each with room for its share, and for some more.
+    pub fn new(alloc: Global, parts: u32, share: usize) -> Result<Spilling, Memory>
+        ensures { IfOk result (λ spilling. spilling ≡ replicate parts []) }
+    {
+        let parts = empty_parts(alloc, parts, share)?;
+        Ok(Spilling { parts })
+    }
+
+    /// Adds what the map of a source emits for these records. After `Memory` a part of it may be
+    /// there.
+    pub fn add<F: Functions>(
+        &mut self,
+        alloc: Global,
+        functions: &F,
+        round: u32,
+        step: u32,
+        source: u32,
+        rows: &Records,
+    ) -> Result<(), Memory>
+        requires { PartsWithin (F.meaning functions.now) round step source rows.now (length self.old) }
+        ensures { OnOk result (self.new ≡ dealt (F.meaning functions.now) round step 0 self.old (stream ((F.meaning functions.now).map round step source) rows.now)) }
+    {
+        deal(alloc, functions, round, step, source, rows, &mut self.parts)
+    }
+
+    /// The parts, each sorted.
+    pub fn finish(self, alloc: Global) -> Result<Parts, Memory>
+        ensures { IfOk result (λ parts. parts ≡ map (sorted record_cmp) self) }
+    {
+        sort_parts(alloc, self.parts)
+    }
 }
 
 /// So many parts with no records, each with room for its share and some more.

@@ -8,6 +8,8 @@ mod chain_tests;
 #[cfg(test)]
 mod failing;
 #[cfg(test)]
+mod library_tests;
+#[cfg(test)]
 mod link_counts;
 #[cfg(test)]
 mod ranks;

@@ -5,13 +5,22 @@ use haloop_run::haloop_top;
 use std::alloc::{AllocError, Global};
 use std::test::Fail;
 
-const PROGRAM: &str =
-    "program least;\nparts 1;\nrounds 1;\nstop exact;\ntable t \"t.tsv\" (int, int);\nbegin t;\nstep { state by same; reduce least; }\n";
+const HOPS: &str =
+    "program hops;\nparts 2;\nrounds 20;\nstop exact;\ntable start \"start.tsv\" (int, int);\ntable links \"links.tsv\" (int, int);\nbegin start;\nstep { state by same; table links by same; reduce hop; }\nstep { prev by same; table start by same; reduce least; }\n";
+
+const ONE_ROUND: &str =
+    "program hops;\nparts 2;\nrounds 1;\nstop exact;\ntable start \"start.tsv\" (int, int);\ntable links \"links.tsv\" (int, int);\nbegin start;\nstep { state by same; table links by same; reduce hop; }\nstep { prev by same; table start by same; reduce least; }\n";
+
+const EVERY: &str =
+    "program all;\nparts 1;\nrounds 3;\nstop exact;\ntable t \"start.tsv\" (int, int);\nbegin t;\nstep { state by same; table t by same; reduce every; }\n";
+
+const LEAST: &str =
+    "program least;\nparts 1;\nrounds 1;\nstop exact;\ntable t \"links.tsv\" (int, int);\nbegin t;\nstep { state by same; reduce least; }\n";
 
 const USAGE: &str =
     "error: usage: haloop run PROGRAM SCHEDULE OUT [journal=FILE] | plain PROGRAM OUT | check PROGRAM | demo N SEED\n";
 
-const DONE: &str = "rounds 1\nend limit\n";
+const DONE: &str = "rounds 3\nend fixpoint\n";
 
 fn words_of(alloc: Global, texts: &[&str]) -> Result<Vec<String>, AllocError> {
     let mut words = Vec::new(alloc);
@@ -21,95 +30,156 @@ fn words_of(alloc: Global, texts: &[&str]) -> Result<Vec<String>, AllocError> {
     Ok(words)
 }
 
-fn files_of(alloc: Global, table: &str) -> Result<MemFiles, Fail> {
+fn files_of(alloc: Global, program: &str, start: &str, links: &str) -> Result<MemFiles, Fail> {
     let files = MemFiles::new(alloc);
-    let files = files.with("p.hal", PROGRAM.as_bytes())?;
+    let files = files.with("p.hal", program.as_bytes())?;
     let files = files.with("s.txt", b"nodes 1\n")?;
     let files = files.with("two.txt", b"nodes 2\n")?;
-    let files = files.with("t.tsv", table.as_bytes())?;
+    let files = files.with("start.tsv", start.as_bytes())?;
+    let files = files.with("links.tsv", links.as_bytes())?;
     Ok(files)
 }
 
 #[test]
-fn tables_give_part_files(rt: HostRuntime) -> Result<(), Fail> {
-    for (table, part) in [
-        ("2\t7\n1\t5\n2\t3\n", "1\t5\n2\t3\n"),
-        ("", ""),
-        ("2\t7\r\n1\t5", "1\t5\n2\t7\n"),
+fn chains_give_part_files(rt: HostRuntime) -> Result<(), Fail> {
+    let links = "1\t2\n2\t3\n";
+    for (program, start, links, first, second, said) in [
+        (HOPS, "1\t0\n", links, "2\t1\n", Some("1\t0\n3\t2\n"), DONE),
         (
-            "1\t-9223372036854775808\n1\t9223372036854775807\n-1\t0\n",
-            "-1\t0\n1\t-9223372036854775808\n",
+            HOPS,
+            "1\t0\n",
+            "1\t2\r\n2\t3",
+            "2\t1\n",
+            Some("1\t0\n3\t2\n"),
+            DONE,
+        ),
+        (HOPS, "", links, "", Some(""), "rounds 2\nend fixpoint\n"),
+        (
+            ONE_ROUND,
+            "1\t0\n",
+            links,
+            "2\t1\n",
+            Some("1\t0\n"),
+            "rounds 1\nend limit\n",
+        ),
+        (
+            EVERY,
+            "1\t2\n",
+            "",
+            "1\t2\n1\t2\n1\t2\n1\t2\n",
+            None,
+            "rounds 3\nend limit\n",
+        ),
+        (
+            LEAST,
+            "",
+            "2\t7\n1\t5\n2\t3\n",
+            "1\t5\n2\t3\n",
+            None,
+            "rounds 1\nend limit\n",
         ),
     ] {
-        let words = words_of(rt.alloc(), &["run", "p.hal", "s.txt", "out"])?;
-        let mut files = files_of(rt.alloc(), table)?;
-        let mut sink = MemSink::new(rt.alloc());
-        let status = haloop_top(rt.alloc(), words.as_slice(), &mut files, &mut sink);
-        assert_eq!(rt; status, 0);
-        assert!(rt;
-            files.bytes("out/part-00000") == Some(part.as_bytes()),
-            "part of {table:?}"
-        );
-        assert!(rt; sink.bytes() == DONE.as_bytes());
+        for by_plain in [false, true] {
+            let words = if by_plain {
+                words_of(rt.alloc(), &["plain", "p.hal", "out"])?
+            } else {
+                words_of(rt.alloc(), &["run", "p.hal", "s.txt", "out"])?
+            };
+            let mut files = files_of(rt.alloc(), program, start, links)?;
+            let mut sink = MemSink::new(rt.alloc());
+            let status = haloop_top(rt.alloc(), words.as_slice(), &mut files, &mut sink);
+            assert_eq!(rt; status, 0);
+            assert!(rt; sink.bytes() == said.as_bytes(), "{said:?}");
+            assert!(rt;
+                files.bytes("out/part-00000") == Some(first.as_bytes()),
+                "{first:?}"
+            );
+            assert!(rt;
+                files.bytes("out/part-00001") == second.map(|text| text.as_bytes()),
+                "{second:?}"
+            );
+        }
     }
     Ok(())
 }
 
 #[test]
 fn refusals_name_their_cause(rt: HostRuntime) -> Result<(), Fail> {
-    for (program, schedule, table, status, said) in [
-        ("q.hal", "s.txt", "1\t2\n", 11, "error: file q.hal absent\n"),
+    let links = "1\t2\n2\t3\n";
+    for (words, links, status, said) in [
         (
-            "p.hal",
-            "none.txt",
-            "1\t2\n",
+            ["run", "q.hal", "s.txt", "out"].as_slice(),
+            links,
+            11,
+            "error: file q.hal absent\n",
+        ),
+        (
+            &["run", "p.hal", "none.txt", "out"],
+            links,
             11,
             "error: file none.txt absent\n",
         ),
-        ("p.hal", "two.txt", "1\t2\n", 12, "error: form not built\n"),
-        ("s.txt", "s.txt", "1\t2\n", 12, "error: form not built\n"),
-        ("p.hal", "s.txt", "1\t+5\n", 12, "error: form not built\n"),
-        ("p.hal", "s.txt", "1\t007\n", 12, "error: form not built\n"),
-        ("p.hal", "s.txt", "1\n", 12, "error: form not built\n"),
-        ("", "s.txt", "1\t2\n", 1, USAGE),
+        (
+            &["run", "p.hal", "two.txt", "out"],
+            links,
+            12,
+            "error: form not built\n",
+        ),
+        (
+            &["plain", "s.txt", "out"],
+            links,
+            12,
+            "error: form not built\n",
+        ),
+        (
+            &["plain", "p.hal", "out"],
+            "1\t2\n2\t3\n3\t+5\n",
+            3,
+            "error: table links line 3: bad-number 1\n",
+        ),
+        (
+            &["run", "p.hal", "s.txt", "out"],
+            "1\t2\n007\t3\n",
+            3,
+            "error: table links line 2: bad-number 0\n",
+        ),
+        (
+            &["run", "p.hal", "s.txt", "out"],
+            "1\t2\n2\n",
+            3,
+            "error: table links line 2: field-count\n",
+        ),
+        (&["run", "", "s.txt", "out"], links, 1, USAGE),
+        (&["plain", "p.hal"], links, 1, USAGE),
     ] {
-        let words = words_of(rt.alloc(), &["run", program, schedule, "out"])?;
-        let mut files = files_of(rt.alloc(), table)?;
+        let words = words_of(rt.alloc(), words)?;
+        let mut files = files_of(rt.alloc(), HOPS, "1\t0\n", links)?;
         let mut sink = MemSink::new(rt.alloc());
         let answer = haloop_top(rt.alloc(), words.as_slice(), &mut files, &mut sink);
         assert_eq!(rt; answer, status);
-        assert!(rt;
-            sink.bytes() == said.as_bytes(),
-            "{program} {schedule} {table:?}"
-        );
+        assert!(rt; sink.bytes() == said.as_bytes(), "{said:?}");
         assert!(rt; files.bytes("out/part-00000").is_none());
     }
-    let words = words_of(rt.alloc(), &["run", "p.hal"])?;
-    let mut files = files_of(rt.alloc(), "1\t2\n")?;
-    let mut sink = MemSink::new(rt.alloc());
-    assert_eq!(rt;
-        haloop_top(rt.alloc(), words.as_slice(), &mut files, &mut sink),
-        1
-    );
-    assert!(rt; sink.bytes() == USAGE.as_bytes());
     Ok(())
 }
 
+// Four files are read, and two are written.
 #[test]
 fn failures_of_files(rt: HostRuntime) -> Result<(), Fail> {
-    for left in 0..5 {
+    for left in 0..7 {
         let words = words_of(rt.alloc(), &["run", "p.hal", "s.txt", "out"])?;
         let mut files = FailingFiles {
-            files: files_of(rt.alloc(), "1\t2\n")?,
+            files: files_of(rt.alloc(), HOPS, "1\t0\n", "1\t2\n2\t3\n")?,
             left,
             faults: 0,
         };
         let mut sink = MemSink::new(rt.alloc());
         let status = haloop_top(rt.alloc(), words.as_slice(), &mut files, &mut sink);
-        let said = if left < 4 { "error: device\n" } else { DONE };
-        assert_eq!(rt; status, if left < 4 { 8 } else { 0 });
+        let said = if left < 6 { "error: device\n" } else { DONE };
+        assert_eq!(rt; status, if left < 6 { 8 } else { 0 });
         assert!(rt; sink.bytes() == said.as_bytes(), "after {left} calls");
-        assert_eq!(rt; files.files.bytes("out/part-00000").is_some(), left >= 4);
+        assert_eq!(rt; files.files.bytes("out/part-00000").is_some(), left >= 5);
+        assert_eq!(rt; files.files.bytes("out/part-00001").is_some(), left >= 6);
     }
     Ok(())
 }
@@ -118,7 +188,7 @@ fn failures_of_files(rt: HostRuntime) -> Result<(), Fail> {
 fn failures_of_the_sink(rt: HostRuntime) -> Result<(), Fail> {
     for (program, has_part) in [("p.hal", true), ("q.hal", false)] {
         let words = words_of(rt.alloc(), &["run", program, "s.txt", "out"])?;
-        let mut files = files_of(rt.alloc(), "1\t2\n")?;
+        let mut files = files_of(rt.alloc(), HOPS, "1\t0\n", "1\t2\n")?;
         let mut sink = FailingSink {
             sink: MemSink::new(rt.alloc()),
             left: 0,

@@ -1,0 +1,120 @@
+#!/bin/sh
+# run.sh [HALOOP]: times the rounds of one program in plain Rust and by
+# `haloop plain`, side by side, and checks that both write the same bytes.
+# HALOOP is the path of the built haloop.
+
+set -eu
+
+here=$(cd "$(dirname "$0")" && pwd)
+haloop=${1:-$here/../../crates/haloop/out/haloop}
+programs="inline"
+if [ -f "$haloop" ] && [ -x "$haloop" ]; then
+    # Every run has a folder of its own, so the path must hold from any folder.
+    haloop=$(cd "$(dirname "$haloop")" && pwd)/$(basename "$haloop")
+    programs="$programs haloop"
+else
+    echo "run.sh: no program at $haloop, so haloop is skipped" >&2
+fi
+
+work=$(mktemp -d)
+trap 'rm -rf "$work"' EXIT
+trap 'exit 1' HUP INT TERM
+
+for source in generate inline; do
+    rustc -O --edition 2021 -o "$work/$source" "$here/$source.rs"
+done
+
+# inline.rs has the same program as data.
+cat >"$work/program" <<'END'
+program hops;
+parts 2;
+rounds 100;
+stop exact;
+table start "start.tsv" (int, int);
+table links "links.tsv" (int, int);
+begin start;
+step { state by same; table links by same; reduce hop; }
+step { prev by same; table start by same; reduce least; }
+END
+printf '1\t0\n' >"$work/start.tsv"
+
+# measure COMMAND...: runs it, keeps what it says in the file said, and prints
+# its milliseconds and its peak in KiB.
+if command time -f %M -o "$work/peak" true 2>/dev/null &&
+    date +%N | grep -q '^[0-9]*$'; then
+    measure() {
+        # The clock of time itself only counts hundredths of a second.
+        begin=$(date +%s%N)
+        command time -f %M -o "$work/peak" "$@" >said || return
+        end=$(date +%s%N)
+        echo "$(((end - begin) / 1000000)) $(cat "$work/peak")"
+    }
+else
+    measure() {
+        python3 -c '
+import resource, subprocess, sys, time
+begin = time.monotonic()
+with open("said", "wb") as said:
+    if subprocess.call(sys.argv[1:], stdout=said):
+        sys.exit(1)
+end = time.monotonic()
+peak = resource.getrusage(resource.RUSAGE_CHILDREN).ru_maxrss
+if sys.platform == "darwin":
+    peak //= 1024  # counted in bytes there
+print(int((end - begin) * 1000), peak)
+' "$@"
+    }
+fi
+
+# The runs alternate, so that a slow spell of the machine hits every program.
+for keys in 25000 250000; do
+    rm -rf "$work/expected"
+    "$work/generate" "$keys" 7 >"$work/links.tsv"
+    for _ in 1 2 3; do
+        for program in $programs; do
+            mkdir "$work/run"
+            cd "$work/run"
+            ln ../start.tsv ../links.tsv ../program .
+            case $program in
+                haloop) set -- "$haloop" plain program out ;;
+                *) set -- "../$program" start.tsv links.tsv out ;;
+            esac
+            figures=$(measure "$@") || {
+                echo "run.sh: $program failed with $keys keys" >&2
+                exit 1
+            }
+            rounds=$(sed -n 's/^rounds //p' said)
+            echo "$keys $program $rounds $figures" >>"$work/figures"
+            # The two lines are compared with the part files.
+            mv said out
+            if [ -d "$work/expected" ]; then
+                diff -rq "$work/expected" out
+            else
+                mv out "$work/expected"
+            fi
+            cd "$work"
+            rm -rf run
+        done
+    done
+done
+
+# The best of the runs, in the order in which they were made.
+awk '
+BEGIN {
+    print "| keys | program | rounds | milliseconds | ms per round | peak MB |"
+    print "|-----:|---------|-------:|-------------:|-------------:|--------:|"
+}
+{
+    name = $1 " | " $2 " | " $3
+    if (!(name in time)) { order[++count] = name; rounds[name] = $3; time[name] = $4; peak[name] = $5 }
+    if ($4 < time[name]) time[name] = $4
+    if ($5 < peak[name]) peak[name] = $5
+}
+END {
+    for (i = 1; i <= count; i++) {
+        name = order[i]
+        printf "| %s | %d | %.1f | %d |\n", name, time[name], time[name] / rounds[name], peak[name] * 1024 / 1000000 + 0.5
+    }
+}' "$work/figures"
+echo
+echo "All part files and lines are byte for byte the same."

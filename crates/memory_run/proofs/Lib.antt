@@ -1,0 +1,5 @@
+pub mod LastParts
+pub mod OneTable
+pub mod Parting
+pub mod Rounds
+pub mod Splits

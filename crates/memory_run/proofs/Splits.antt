@@ -1,0 +1,59 @@
+-- Splits dealt one after another.
+use Rattle.std.proofs.Common.{◌≡◌, ℕ, ◌+◌, ◌<◌, List, [], ◌∷◌, ◌++◌, refl, sym, ap, ◌∙◌, map, length, get_or, drop, replicate}
+use Rattle.std.proofs.lemmas.List.{append_assoc, at_drop_more, length-replicate}
+use Rattle.std.proofs.lemmas.Grind.{flat_map-append}
+use Rattle.hal_base.specs.declared.record.Record.{Record}
+use Rattle.hal_base.specs.declared.shape.Origin.{Origin}
+use Rattle.hal_base.specs.declared.shape.Source.{Source}
+use Rattle.hal_base.specs.Meaning.{Meaning}
+use Rattle.hal_base.specs.Order.{record_cmp}
+use Rattle.hal_base.specs.Sorted.{sorted}
+use Rattle.plain_job.specs.Job.{stream}
+use Rattle.plain_job.specs.Chain.{streams, together}
+use Rattle.partition_shuffle.specs.Spills.{dealt, spilled}
+use Rattle.partition_shuffle.proofs.Dealing.{length-dealt, dealt_twice, dealt_end, dealt_sorted}
+
+-- what is dealt so far, and what these splits are to add, make the whole
+pub record Dealt (m : Meaning) (i j s n : ℕ) (spilling splits all : List (List Record)) : Type 0 where
+  pub many : length spilling ≡ n
+  pub left : dealt m i j 0 spilling (stream (m.map i j s) (together splits)) ≡ dealt m i j 0 (replicate n []) (stream (m.map i j s) (together all))
+
+module _ {m : Meaning} {i j s n : ℕ} where
+  pub none_dealt : (spilling all : List (List Record)) → spilling ≡ replicate n [] → Dealt m i j s n spilling all all
+  none_dealt spilling all e = record { many = ap length e ∙ length-replicate n []; left = ap (λ parts. dealt m i j 0 parts (stream (m.map i j s) (together all))) e }
+
+  pub one_dealt : {spilling before all : List (List Record)} (changed : List (List Record)) (rows : List Record) (splits : List (List Record)) → before ≡ rows ∷ splits → Dealt m i j s n spilling before all → changed ≡ dealt m i j 0 spilling (stream (m.map i j s) rows) → Dealt m i j s n changed splits all
+  one_dealt {spilling} changed rows splits next d made =
+      let means = m.map i j s in
+      record {
+        many = ap length made ∙ length-dealt m i j 0 spilling (stream means rows) ∙ d.many;
+        left =
+            ap (λ parts. dealt m i j 0 parts (stream means (together splits))) made
+            ∙ dealt_twice m i j 0 spilling (stream means rows) (stream means (together splits))
+            ∙ ap (dealt m i j 0 spilling) (sym (flat_map-append means rows (together splits)))
+            ∙ ap (λ xs. dealt m i j 0 spilling (stream means (together xs))) (sym next)
+            ∙ d.left;
+      }
+
+  pub next_dealt : {spilling : List (List Record)} (changed all : List (List Record)) (k : ℕ) (rows : List Record) → k < length all → rows ≡ get_or all k rows → Dealt m i j s n spilling (drop k all) all → changed ≡ dealt m i j 0 spilling (stream (m.map i j s) rows) → Dealt m i j s n changed (drop (k + 1) all) all
+  next_dealt {spilling} changed all k rows l e d made =
+      let here : drop k all ≡ rows ∷ drop (k + 1) all = at_drop_more (λ xs. xs) all k rows l ∙ ap (λ x. x ∷ drop (k + 1) all) (sym e) in
+      one_dealt changed rows (drop (k + 1) all) here d made
+
+  pub all_dealt : {spilling splits all : List (List Record)} → splits ≡ [] → Dealt m i j s n spilling splits all → map (sorted record_cmp) spilling ≡ spilled m i j s (together all) n
+  all_dealt {spilling} {splits} {all} none d =
+      let means = m.map i j s in
+      let emitted : List Record = stream means (together all) in
+      let is : spilling ≡ dealt m i j 0 (replicate n []) emitted =
+      dealt_end m i j spilling (dealt m i j 0 (replicate n []) emitted) (stream means (together splits)) (ap (λ xs. stream means (together xs)) none) d.left
+      in
+      dealt_sorted m i j n emitted (replicate n []) spilling refl is
+
+-- one source more is cut into its sections
+pub source_more : (m : Meaning) (i j n k : ℕ) (rows : Origin → List Record) (cut : List Record → List (List Record)) (found more whole : List (List (List Record))) (all : List Source) (source : Source) (spill : List (List Record)) → k < length all → source ≡ get_or all k source → spill ≡ cut (stream (m.map i j n) (rows source.from)) → more ≡ found ++ spill ∷ [] → found ++ map cut (streams m i j rows n (drop k all)) ≡ whole → more ++ map cut (streams m i j rows (n + 1) (drop (k + 1) all)) ≡ whole
+source_more m i j n k rows cut found more whole all source spill l e made added so_far =
+    let later : List (List (List Record)) = map cut (streams m i j rows (n + 1) (drop (k + 1) all)) in
+    let here : map cut (streams m i j rows n (drop k all)) ≡ spill ∷ later =
+    at_drop_more (λ xs. map cut (streams m i j rows n xs)) all k source l ∙ ap (λ (x : Source). cut (stream (m.map i j n) (rows x.from)) ∷ later) (sym e) ∙ ap (λ x. x ∷ later) (sym made)
+    in
+    ap (λ xs. xs ++ later) added ∙ append_assoc found (spill ∷ []) later ∙ ap (λ xs. found ++ xs) (sym here) ∙ so_far

@@ -1,0 +1,40 @@
+-- The steps of the chain in memory, for their contracts alone.
+use Rattle.std.specs.Prelude.{◌≡◌, ◌==◌, ℕ, List, [], ◌∷◌, map, Option, None, Some}
+use Rattle.hal_base.specs.declared.record.Record.{Record}
+use Rattle.hal_base.specs.declared.shape.Shape.{Shape}
+use Rattle.hal_base.specs.Meaning.{Meaning}
+use Rattle.hal_base.specs.Order.{record_cmp}
+use Rattle.hal_base.specs.Sorted.{sorted}
+use Rattle.plain_job.specs.declared.chain.End.{End}
+use Rattle.plain_job.specs.declared.chain.End.TheVariants as end
+use Rattle.plain_job.specs.Laws.{part}
+use Rattle.plain_job.specs.Chain.{numbers_from, part_out}
+use Rattle.fixpoint_test.specs.declared.decision.Next.{Next}
+use Rattle.fixpoint_test.specs.declared.decision.Next.TheVariants as next
+
+-- the first of some sections
+abbrev pub first_section : List (List Record) → List Record
+first_section [] = []
+first_section (rows ∷ sections) = rows
+
+-- the sections after the first
+abbrev pub later_sections : List (List Record) → List (List Record)
+later_sections [] = []
+later_sections (rows ∷ sections) = sections
+
+-- the sections of a stream of step j in round i, so many from part p on: the records of each part, sorted
+abbrev pub sections : Meaning → ℕ → ℕ → ℕ → ℕ → List Record → List (List Record)
+sections m i j p n rows = map (λ q. sorted record_cmp (part (λ key. m.partition i j key == q) rows)) (numbers_from p n)
+
+-- the parts are all parts of what step j emits in some round
+pub record AreLeftBy (m : Meaning) (shape : Shape) (j : ℕ) (parts : List (List Record)) : Type 0 where
+  pub i : ℕ
+  pub streams : List (List Record)
+  pub parts_are : parts ≡ map (part_out m i j streams) (numbers_from 0 shape.parts)
+
+-- the end that a decision stands for, unless there is another round
+abbrev pub end_of : Next → Option End
+end_of next.Again = None
+end_of next.Fixpoint = Some end.Fixpoint
+end_of next.Close = Some end.Close
+end_of next.Limit = Some end.Limit
