@@ -12,11 +12,9 @@ ghost use Rattle.haloop_run.specs.Texts.{asked_by};
 
 use crate::refusal::Refusal;
 use crate::words::Command;
-use hal_base::{
-    CopyIn, Items, Kind, Kinds, Memory, Records, Schema, TableFault, Tables, read_table,
-};
+use hal_base::{CopyIn, Items, Memory, Records, TableFault, Tables, read_table};
 use hal_outside::{FileFault, Files};
-use program_form::{Form, TableForm, read_form};
+use program_form::{Form, TableForm, pairs, read_form};
 use std::alloc::Global;
 
 /// A program, and the records of each of its tables.
@@ -149,18 +147,6 @@ fn bad_table(alloc: Global, table: &TableForm, what: TableFault) -> Refusal
         Ok(name) => Refusal::BadTable { name, what },
         Err(Memory) => Refusal::Memory,
     }
-}
-
-/// A number as key and a number as field.
-fn pairs(alloc: Global) -> Result<Schema, Memory>
-    ensures { IfOk result (λ schema. schema ≡ shapes.pairs) }
-{
-    let mut fields = Kinds::new(alloc);
-    fields.push(Kind::Int)?;
-    Ok(Schema {
-        key: Kind::Int,
-        fields,
-    })
 }
 
 /// The bytes of a file.

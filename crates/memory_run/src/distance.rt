@@ -1,4 +1,4 @@
-ghost use Rattle.std.specs.Prelude.{◌≡◌, ◌++◌, ◌≤◌, length, min, sum, IfOk, OnOk};
+ghost use Rattle.std.specs.Prelude.{◌≡◌, ◌≤◌, length, min, sum, IfOk};
 ghost use Rattle.plain_job.specs.Chain as chain;
 ghost use Rattle.plain_job.specs.Ends.{distance};
 ghost use Rattle.fixpoint_test.specs.Distances.{distance_by, part_distances};
@@ -6,7 +6,8 @@ ghost use Rattle.memory_run.specs.Fits.{Fits};
 ghost use Rattle.memory_run.specs.Steps.{AreLeftBy};
 
 use fixpoint_test::{global_distance, part_distance};
-use hal_base::{CopyIn, Functions, Memory, Parts, Records, Shape};
+use hal_base::{Functions, Memory, Parts, Records, Shape};
+use plain_job::together;
 use std::alloc::Global;
 
 /// How far what the last step left is from what it left in the round before.
@@ -66,23 +67,4 @@ fn distance_of_whole<F: Functions>(
     let old = together(alloc, old)?;
     let new = together(alloc, new)?;
     part_distance(alloc, functions, &old, &new)
-}
-
-fn together(alloc: Global, parts: &Parts) -> Result<Records, Memory>
-    ensures { IfOk result (λ rows. rows ≡ chain.together parts.now) }
-{
-    let mut out = Records::new(alloc);
-    'parts: for rows in parts.as_slice() {
-        append_rows(alloc, rows, &mut out)?;
-    }
-    Ok(out)
-}
-
-fn append_rows(alloc: Global, rows: &Records, out: &mut Records) -> Result<(), Memory>
-    ensures { OnOk result (out.new ≡ out.old ++ rows.now) }
-{
-    'rows: for row in rows.as_slice() {
-        out.push(row.copy(alloc)?)?;
-    }
-    Ok(())
 }

@@ -120,7 +120,7 @@ pub(crate) fn table_at(alloc: Global, tables: &Tables, number: u32) -> Result<Re
 }
 
 /// The parts of an output, one after another.
-pub(crate) fn together(alloc: Global, parts: &Parts) -> Result<Records, Memory>
+pub fn together(alloc: Global, parts: &Parts) -> Result<Records, Memory>
     ensures { IfOk result (λ rows. rows ≡ chain.together parts.now) }
 {
     let mut out = Records::new(alloc);

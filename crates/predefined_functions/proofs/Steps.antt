@@ -1,12 +1,8 @@
 -- A loop that adds what each item gives.
-use Rattle.std.proofs.Common.{◌≡◌, List, [], ◌∷◌, ◌++◌, refl, sym, ap, ◌∙◌, ℕ, ◌+◌, ◌<◌, length, drop, get_or}
+use Rattle.std.proofs.Common.{◌≡◌, List, ◌∷◌, ◌++◌, sym, ap, ◌∙◌, ℕ, ◌+◌, ◌<◌, length, drop, get_or, append_assoc}
 use Rattle.std.specs.List.{flat_map}
 use Rattle.std.proofs.lemmas.List.{drop_more}
 use Rattle.hal_base.specs.declared.record.Record.{Record}
-
-assoc : (xs ys zs : List Record) → (xs ++ ys) ++ zs ≡ xs ++ (ys ++ zs)
-assoc [] ys zs = refl
-assoc (x ∷ xs) ys zs = ap (λ l. x ∷ l) (assoc xs ys zs)
 
 -- one item further
 pub one_further : {A : Type 0} (given : A → List Record) (items : List A) (i : ℕ) (item : A) (out more whole : List Record)
@@ -14,6 +10,6 @@ pub one_further : {A : Type 0} (given : A → List Record) (items : List A) (i :
     → more ++ flat_map given (drop (i + 1) items) ≡ whole
 one_further given items i item out more whole l e added so_far =
     ap (λ o. o ++ flat_map given (drop (i + 1) items)) added
-    ∙ assoc out (given item) (flat_map given (drop (i + 1) items))
+    ∙ append_assoc out (given item) (flat_map given (drop (i + 1) items))
     ∙ ap (λ rest. out ++ rest) (sym (ap (λ d. flat_map given d) (drop_more items i item l ∙ ap (λ x. x ∷ drop (i + 1) items) (sym e))))
     ∙ so_far

@@ -13,5 +13,5 @@ mod words;
 pub use form::{Form, Names, StepForm, TableForm};
 pub use print::form_text;
 pub use reading::read_form;
-pub use shaping::{form_functions, form_shape};
+pub use shaping::{form_functions, form_shape, pairs};
 pub use words::{is_file_text, is_name_text};

@@ -77,7 +77,8 @@ fn schemas_of(alloc: Global, tables: &[TableForm]) -> Result<Schemas, Memory>
     Ok(schemas)
 }
 
-fn pairs(alloc: Global) -> Result<Schema, Memory>
+/// The schema of every table and stream: a number as key, and a number as field.
+pub fn pairs(alloc: Global) -> Result<Schema, Memory>
     ensures { IfOk result (λ schema. schema ≡ shapes.pairs) }
 {
     let mut fields = Kinds::new(alloc);

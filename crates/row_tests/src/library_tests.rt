@@ -1,14 +1,10 @@
 // Vectors for the parts, the test for the end, the shuffle and the program's text.
-ghost use Rattle.std.specs.Prelude.{◌≡◌, IfOk};
-
 use crate::samples::pair;
 use fixpoint_test::{Next, decide, global_distance, part_distance};
-use hal_base::{Memory, Parts, Records, SortedStream, Text, Value, default_part, lines};
-use memory_run::chain_in_memory;
+use hal_base::{Memory, Records, SortedStream, Text, Value, default_part, lines, write_line};
 use partition_shuffle::{merge, spill};
-use plain_job::plain_chain;
 use predefined_functions::{Predefined, Reduces};
-use program_form::{form_functions, form_shape, form_text, read_form};
+use program_form::{form_shape, form_text, read_form};
 use std::alloc::Global;
 use std::test::Fail;
 
@@ -64,10 +60,26 @@ fn rows_are_spilled_and_merged(rt: HostRuntime) -> Result<(), Fail> {
         );
     }
     let mut merged = merge(rt.alloc(), spilled)?;
-    let mut again = Records::new(rt.alloc());
-    while let Some(row) = merged.next(rt.alloc())? {
-        again.push(row)?;
+    for text in ["-1\t4\n", "2\t9\n", "3\t0\n", "3\t1\n"] {
+        let row = merged.next(rt.alloc())?.ok_or("no record")?;
+        assert!(rt;
+            write_line(rt.alloc(), &row)?.as_slice() == text.as_bytes(),
+            "{text:?}"
+        );
     }
-    assert!(rt; lines(rt.alloc(), &again)?.as_slice() == b"-1\t4\n2\t9\n3\t0\n3\t1\n".as_slice());
+    assert!(rt; merged.next(rt.alloc())?.is_none());
+    Ok(())
+}
+
+#[test]
+fn programs_are_printed_as_they_are_read(rt: HostRuntime) -> Result<(), Fail> {
+    let text =
+        "program all;\nparts 64;\nrounds 10000;\nstop exact;\ntable t \"a b.tsv\" (int, int);\ntable u_2 \"~\" (int, int);\nbegin u_2;\nstep { state by same; reduce every; }\nstep { prev by same; table t by same; reduce hop; }\n";
+    let form = read_form(rt.alloc(), text.as_bytes())?.ok_or("no program")?;
+    assert!(rt; form_text(rt.alloc(), &form)?.as_slice() == text.as_bytes());
+    let shape = form_shape(rt.alloc(), &form)?;
+    assert_eq!(rt; shape.start, 1);
+    assert_eq!(rt; shape.steps.len(), 2);
+    assert!(rt; read_form(rt.alloc(), text[1..].as_bytes())?.is_none());
     Ok(())
 }
