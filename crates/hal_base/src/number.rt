@@ -1,7 +1,20 @@
-ghost use Rattle.std.specs.Prelude.{◌≡◌, ℤ, IfSome, IfNone, IsTrue, ◌↔◌, ◌≢◌, FitsSigned};
+ghost use Rattle.std.specs.Prelude.{◌≡◌, ◌++◌, decimal, ℤ, OnOk, IfSome, IfNone, IsTrue, ◌↔◌, ◌≢◌, FitsSigned};
 ghost use Rattle.std.specs.Int.{w64};
 ghost use Rattle.std.specs.Fmt.{signed_decimal};
 ghost use Rattle.hal_base.specs.Numbers.{canonical_front};
+
+use crate::memory::Memory;
+use itoa::Buffer;
+
+/// Adds these words, and the digits of a number.
+pub fn append_number(out: &mut Vec<u8>, words: &[u8], number: u32) -> Result<(), Memory>
+    ensures { OnOk result (out.new.items ≡ out.old.items ++ (words.now ++ decimal number)) }
+{
+    let mut digits = Buffer::new();
+    out.extend_from_slice(words)?;
+    out.extend_from_slice(digits.format(number).as_bytes())?;
+    Ok(())
+}
 
 /// The number that is spelled so: `0`, or an optional `-` and digits that do not begin with 0.
 pub(crate) fn read_number(piece: &[u8]) -> Option<i64>

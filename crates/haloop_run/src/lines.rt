@@ -1,10 +1,9 @@
-ghost use Rattle.std.specs.Prelude.{◌≡◌, ◌++◌, decimal, IfOk, OnOk};
+ghost use Rattle.std.specs.Prelude.{◌≡◌, ◌++◌, codes, IfOk, OnOk};
 ghost use Rattle.plain_job.specs.Ends.{ending_text};
 ghost use Rattle.plain_job.specs.Plain.{ending_of};
 ghost use Rattle.haloop_run.specs.Outputs as outputs;
 
-use hal_base::{LineFault, Memory, TableFault};
-use itoa::Buffer;
+use hal_base::{LineFault, Memory, TableFault, append_number};
 use plain_job::End;
 use std::alloc::Global;
 
@@ -12,8 +11,8 @@ use std::alloc::Global;
 pub(crate) fn report(alloc: Global, rounds: u32, end: End) -> Result<Vec<u8>, Memory>
     ensures { IfOk result (λ text. text.items ≡ outputs.report rounds (ending_of end)) }
 {
-    let mut text = Vec::from_slice(alloc, b"rounds ")?;
-    push_number(&mut text, rounds)?;
+    let mut text = Vec::new(alloc);
+    append_number(&mut text, b"rounds ", rounds)?;
     text.extend_from_slice(b"\nend ")?;
     text.extend_from_slice(end_word(end))?;
     text.extend_from_slice(b"\n")?;
@@ -44,26 +43,25 @@ pub(crate) fn table_line(alloc: Global, name: &[u8], what: TableFault) -> Result
 {
     let mut line = Vec::from_slice(alloc, b"error: table ")?;
     line.extend_from_slice(name)?;
-    line.extend_from_slice(b" line ")?;
     push_table_fault(&mut line, what)?;
     line.extend_from_slice(b"\n")?;
     Ok(line)
 }
 
 fn push_table_fault(line: &mut Vec<u8>, what: TableFault) -> Result<(), Memory>
-    ensures { OnOk result (line.new.items ≡ line.old.items ++ outputs.table_fault_text what) }
+    ensures { OnOk result (line.new.items ≡ line.old.items ++ (codes " line " ++ outputs.table_fault_text what)) }
 {
     match what {
         TableFault::Line { line: number, what } => {
-            push_number(line, number)?;
+            append_number(line, b" line ", number)?;
             line.extend_from_slice(b": ")?;
             push_line_fault(line, what)
         }
         TableFault::TooMany { line: number } => {
-            push_number(line, number)?;
+            append_number(line, b" line ", number)?;
             Ok(line.extend_from_slice(b": limit")?)
         }
-        TableFault::Memory => Ok(line.extend_from_slice(b"memory")?),
+        TableFault::Memory => Ok(line.extend_from_slice(b" line memory")?),
     }
 }
 
@@ -72,23 +70,8 @@ fn push_line_fault(line: &mut Vec<u8>, what: LineFault) -> Result<(), Memory>
 {
     match what {
         LineFault::FieldCount => Ok(line.extend_from_slice(b"field-count")?),
-        LineFault::BadNumber { field } => push_numbered(line, b"bad-number ", field),
-        LineFault::BadText { field } => push_numbered(line, b"bad-text ", field),
+        LineFault::BadNumber { field } => append_number(line, b"bad-number ", field),
+        LineFault::BadText { field } => append_number(line, b"bad-text ", field),
         LineFault::Memory => Ok(line.extend_from_slice(b"memory")?),
     }
-}
-
-fn push_numbered(line: &mut Vec<u8>, words: &[u8], number: u32) -> Result<(), Memory>
-    ensures { OnOk result (line.new.items ≡ line.old.items ++ (words.now ++ decimal number)) }
-{
-    line.extend_from_slice(words)?;
-    push_number(line, number)
-}
-
-fn push_number(line: &mut Vec<u8>, number: u32) -> Result<(), Memory>
-    ensures { OnOk result (line.new.items ≡ line.old.items ++ decimal number) }
-{
-    let mut digits = Buffer::new();
-    line.extend_from_slice(digits.format(number).as_bytes())?;
-    Ok(())
 }

@@ -4,8 +4,7 @@ ghost use Rattle.program_form.specs.Forms as forms;
 ghost use Rattle.program_form.specs.Forms.{input_text, reduce_text, step_text, steps_text, table_text};
 
 use crate::form::{Form, StepForm, TableForm};
-use hal_base::{Memory, Text};
-use itoa::Buffer;
+use hal_base::{Memory, Text, append_number};
 use predefined_functions::Reduce;
 use std::alloc::Global;
 
@@ -31,15 +30,6 @@ fn append_head(out: &mut Vec<u8>, form: &Form) -> Result<(), Memory>
     append_number(out, b";\nparts ", form.parts)?;
     append_number(out, b";\nrounds ", form.rounds)?;
     out.extend_from_slice(b";\nstop exact;\n")?;
-    Ok(())
-}
-
-fn append_number(out: &mut Vec<u8>, words: &[u8], number: u32) -> Result<(), Memory>
-    ensures { OnOk result (out.new.items ≡ out.old.items ++ (words.now ++ decimal number)) }
-{
-    let mut digits = Buffer::new();
-    out.extend_from_slice(words)?;
-    out.extend_from_slice(digits.format(number).as_bytes())?;
     Ok(())
 }
 
