@@ -2,15 +2,12 @@
 use Rattle.std.proofs.Common.{◌≡◌, ℕ, suc, ◌+◌, ◌-◌, ◌<◌, ◌==◌, Bool, true, List, [], ◌∷◌, ◌++◌, refl, sym, ap, ◌∙◌, map, length, get_or, take, drop, arith}
 use Rattle.std.proofs.Math.ListN.{set}
 use Rattle.std.proofs.lemmas.List.{append-nil}
-use Rattle.std.specs.List.{AllByRecursion}
 use Rattle.hal_base.specs.declared.value.Value.{Value}
 use Rattle.hal_base.specs.declared.record.Record.{Record}
 use Rattle.hal_base.specs.Meaning.{Meaning}
 use Rattle.hal_base.specs.Order.{record_cmp}
-use Rattle.hal_base.specs.Laws.{record_cmp_total}
 use Rattle.hal_base.specs.Sorted.{Ascending, sorted}
 use Rattle.hal_base.proofs.Passes.{pass_over}
-use Rattle.hal_base.proofs.Sorts.{ascending_sorted}
 use Rattle.hal_base.proofs.Strict.{sorted_same}
 use Rattle.plain_job.specs.Job.{job}
 use Rattle.plain_job.specs.Laws.{part}
@@ -19,11 +16,6 @@ use Rattle.plain_job.proofs.Keeps.{keeps}
 use Rattle.plain_job.proofs.Parted.{parts}
 use Rattle.plain_job.proofs.Tables.{part_more}
 use Rattle.memory_run.specs.Steps.{first_section, later_sections, sections}
-
--- sorted parts are in order
-pub all_ascending : (parts : List (List Record)) → AllByRecursion (Ascending record_cmp) (map (sorted record_cmp) parts)
-all_ascending [] = tt
-all_ascending (rows ∷ parts) = (ascending_sorted record_cmp_total rows, all_ascending parts)
 
 -- one section in order is its own merge
 pub alone_merged : (rows : List Record) (alone : List (List Record)) → alone ≡ rows ∷ [] → Ascending record_cmp rows → sorted record_cmp (together alone) ≡ rows

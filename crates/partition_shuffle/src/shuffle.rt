@@ -1,6 +1,7 @@
 ghost use Rattle.std.specs.Prelude.{◌≡◌, ◌≤◌, [], ◌∷◌, length, map, replicate, IfOk, OnOk};
 ghost use Rattle.hal_base.specs.Order.{record_cmp};
-ghost use Rattle.hal_base.specs.Sorted.{sorted};
+ghost use Rattle.std.specs.List.{AllByRecursion};
+ghost use Rattle.hal_base.specs.Sorted.{Ascending, sorted};
 ghost use Rattle.plain_job.specs.Job.{stream};
 ghost use Rattle.partition_shuffle.specs.Spills.{HaveParts, PartsWithin, dealt, spilled};
 
@@ -22,7 +23,8 @@ pub fn spill<F: Functions>(
 ) -> Result<Parts, Memory>
     requires few { (1 ≤ parts) × (parts ≤ 64) }
     requires within { PartsWithin (F.meaning functions.now) round step source rows.now parts }
-    ensures { IfOk result (λ out. out ≡ spilled (F.meaning functions.now) round step source rows.now parts) }
+    ensures parts { IfOk result (λ out. out ≡ spilled (F.meaning functions.now) round step source rows.now parts) }
+    ensures in_order { IfOk result (AllByRecursion (Ascending record_cmp)) }
 {
     let mut spilling = Spilling::new(alloc, parts, rows.len() / parts as usize)?;
     spilling.add(alloc, functions, round, step, source, rows)?;
@@ -72,7 +74,8 @@ impl Spilling {
 
     /// The parts, each sorted.
     pub fn finish(self, alloc: Global) -> Result<Parts, Memory>
-        ensures { IfOk result (λ parts. parts ≡ map (sorted record_cmp) self) }
+        ensures parts { IfOk result (λ parts. parts ≡ map (sorted record_cmp) self) }
+        ensures in_order { IfOk result (AllByRecursion (Ascending record_cmp)) }
     {
         sort_parts(alloc, self.parts)
     }

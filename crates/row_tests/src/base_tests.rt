@@ -66,6 +66,22 @@ fn faults_of_lines_are_named(rt: HostRuntime) -> Result<(), Fail> {
 }
 
 #[test]
+fn texts_have_at_most_255_bytes(rt: HostRuntime) -> Result<(), Fail> {
+    let schema = schema_of(rt.alloc(), Kind::Int, Kind::Text)?;
+    let mut line = Vec::from_slice(rt.alloc(), b"0\t")?;
+    line.extend_from_slice(&[b'a'; 255])?;
+    assert!(rt; read_line(rt.alloc(), line.as_slice(), &schema).is_ok());
+    line.push(b'a')?;
+    assert!(rt;
+        matches!(
+            read_line(rt.alloc(), line.as_slice(), &schema),
+            Err(LineFault::BadText { field: 1 })
+        )
+    );
+    Ok(())
+}
+
+#[test]
 fn tables_are_read_and_written(rt: HostRuntime) -> Result<(), Fail> {
     let schema = schema_of(rt.alloc(), Kind::Int, Kind::Int)?;
     for (text, count) in [
