@@ -34,31 +34,7 @@ step { state by same; reduce least; }
 END
 echo "nodes 1" >"$work/schedule"
 
-# measure COMMAND...: runs it and prints its milliseconds and its peak in KiB.
-if command time -f %M -o "$work/peak" true 2>/dev/null &&
-    date +%N | grep -q '^[0-9]*$'; then
-    measure() {
-        # The clock of time itself only counts hundredths of a second.
-        begin=$(date +%s%N)
-        command time -f %M -o "$work/peak" "$@" >/dev/null || return
-        end=$(date +%s%N)
-        echo "$(((end - begin) / 1000000)) $(cat "$work/peak")"
-    }
-else
-    measure() {
-        python3 -c '
-import resource, subprocess, sys, time
-begin = time.monotonic()
-if subprocess.call(sys.argv[1:], stdout=subprocess.DEVNULL):
-    sys.exit(1)
-end = time.monotonic()
-peak = resource.getrusage(resource.RUSAGE_CHILDREN).ru_maxrss
-if sys.platform == "darwin":
-    peak //= 1024  # counted in bytes there
-print(int((end - begin) * 1000), peak)
-' "$@"
-    }
-fi
+. "$here/../measure.sh"
 
 # The rounds alternate, so that a slow spell of the machine hits every program.
 for records in 1000000 4000000; do
