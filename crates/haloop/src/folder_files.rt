@@ -1,4 +1,4 @@
-ghost use Rattle.std.specs.Prelude.{◌≡◌, ◌↔◌, ◌≤◌, None, IfOk, vec_len};
+ghost use Rattle.std.specs.Prelude.{◌≡◌, ◌+◌, ◌↔◌, ◌≤◌, None, IfOk, IfSome, min, vec_len};
 ghost use Rattle.std.specs.IoError.{error_kind};
 ghost use Rattle.hal_outside.specs.Told.{Rose};
 ghost use Rattle.hal_outside.specs.Faults.{AtFileDevice};
@@ -39,6 +39,8 @@ impl<R> FolderFiles<R> {
     /// What a failed call answers. It counts a device's failure, and does not count want of memory.
     fn fault(&mut self, error: &io::Error) -> FileFault
         ensures faults_stay { self.old.faults ≤ self.new.faults }
+        ensures counted { AtFileDevice result (self.new.faults ≡ min (self.old.faults + 1) u64.MAX) }
+        ensures kept { result ≡ FileFault.Memory → self.new.faults ≡ self.old.faults }
         ensures absents_kept { self.new.absents ≡ self.old.absents }
         ensures device { AtFileDevice result (Rose self.old.faults self.new.faults) }
         ensures memory { (result ≡ FileFault.Memory) ↔ (error_kind error.now ≡ ErrorKind.OutOfMemory) }
@@ -83,7 +85,8 @@ impl<R: rt::Files> Files for FolderFiles<R> {
 /// All bytes of an open file. It fails where they are more than `MOST_BYTES`, where the system fails a
 /// call, as at a folder, or for want of memory.
 fn read_whole<F: Read + OpenFile + Drop>(alloc: Global, file: F) -> io::Result<Vec<u8>>
-    ensures { IfOk result (λ bytes. vec_len bytes ≤ MOST_BYTES) }
+    ensures few { IfOk result (λ bytes. vec_len bytes ≤ MOST_BYTES) }
+    ensures whole { IfOk result (λ bytes. IfSome (F.remaining file) (λ all. bytes.items ≡ all)) }
 {
     let length = file.metadata()?.len();
     if length > MOST_BYTES {
