@@ -1,4 +1,24 @@
-# Read by the scripts run.sh of the benches, which have made the folder $work.
+# Read by the scripts run.sh of the benches, each with the words that it was called with. It takes the
+# folder $here of the bench and its $programs, makes the folder $work with the programs in it, and adds
+# haloop to them where it is built.
+
+haloop=${1:-$here/../../crates/haloop/out/haloop}
+
+work=$(mktemp -d)
+trap 'rm -rf "$work"' EXIT
+trap 'exit 1' HUP INT TERM
+
+for source in generate $programs; do
+    rustc -O --edition 2021 -o "$work/$source" "$here/$source.rs"
+done
+
+if [ -f "$haloop" ] && [ -x "$haloop" ]; then
+    # Every run has a folder of its own, so the path must hold from any folder.
+    haloop=$(cd "$(dirname "$haloop")" && pwd)/$(basename "$haloop")
+    programs="$programs haloop"
+else
+    echo "run.sh: no program at $haloop, so haloop is skipped" >&2
+fi
 
 # measure COMMAND...: runs it, keeps what it says in the file said, and prints
 # its milliseconds and its peak in KiB.

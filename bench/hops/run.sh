@@ -6,23 +6,8 @@
 set -eu
 
 here=$(cd "$(dirname "$0")" && pwd)
-haloop=${1:-$here/../../crates/haloop/out/haloop}
 programs="inline"
-if [ -f "$haloop" ] && [ -x "$haloop" ]; then
-    # Every run has a folder of its own, so the path must hold from any folder.
-    haloop=$(cd "$(dirname "$haloop")" && pwd)/$(basename "$haloop")
-    programs="$programs haloop"
-else
-    echo "run.sh: no program at $haloop, so haloop is skipped" >&2
-fi
-
-work=$(mktemp -d)
-trap 'rm -rf "$work"' EXIT
-trap 'exit 1' HUP INT TERM
-
-for source in generate inline; do
-    rustc -O --edition 2021 -o "$work/$source" "$here/$source.rs"
-done
+. "$here/../measure.sh"
 
 # inline.rs has the same program as data.
 cat >"$work/program" <<'END'
@@ -37,8 +22,6 @@ step { state by same; table links by same; reduce hop; }
 step { prev by same; table start by same; reduce least; }
 END
 printf '1\t0\n' >"$work/start.tsv"
-
-. "$here/../measure.sh"
 
 # The runs alternate, so that a slow spell of the machine hits every program.
 for keys in 25000 250000; do

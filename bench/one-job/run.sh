@@ -5,23 +5,8 @@
 set -eu
 
 here=$(cd "$(dirname "$0")" && pwd)
-haloop=${1:-$here/../../crates/haloop/out/haloop}
 programs="straightforward inline"
-if [ -f "$haloop" ] && [ -x "$haloop" ]; then
-    # Every run has a folder of its own, so the path must hold from any folder.
-    haloop=$(cd "$(dirname "$haloop")" && pwd)/$(basename "$haloop")
-    programs="$programs haloop"
-else
-    echo "run.sh: no program at $haloop, so haloop is skipped" >&2
-fi
-
-work=$(mktemp -d)
-trap 'rm -rf "$work"' EXIT
-trap 'exit 1' HUP INT TERM
-
-for source in generate straightforward inline; do
-    rustc -O --edition 2021 -o "$work/$source" "$here/$source.rs"
-done
+. "$here/../measure.sh"
 
 cat >"$work/program" <<'END'
 program bench;
@@ -33,8 +18,6 @@ begin t;
 step { state by same; reduce least; }
 END
 echo "nodes 1" >"$work/schedule"
-
-. "$here/../measure.sh"
 
 # The rounds alternate, so that a slow spell of the machine hits every program.
 for records in 1000000 4000000; do
