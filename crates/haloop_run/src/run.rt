@@ -52,5 +52,5 @@ fn chain_of(alloc: Global, input: Accepted) -> Result<PlainChain, Memory>
 {
     let shape = form_shape(alloc, &input.form)?;
     let functions = form_functions(alloc, &input.form)?;
-    chain_in_memory(alloc, &functions, &shape, &input.tables)
+    chain_in_memory(alloc, &functions, &shape, input.tables)
 }

@@ -1,5 +1,9 @@
+pub mod Beside
+pub mod GivingUp
+pub mod Keeping
 pub mod LastParts
 pub mod OneTable
 pub mod Parting
 pub mod Rounds
+pub mod Serving
 pub mod Splits

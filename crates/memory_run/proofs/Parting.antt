@@ -1,7 +1,7 @@
 -- The sections of streams, part by part.
-use Rattle.std.proofs.Common.{◌≡◌, ℕ, suc, ◌+◌, ◌-◌, ◌<◌, ◌==◌, Bool, true, List, [], ◌∷◌, ◌++◌, refl, sym, ap, ◌∙◌, map, length, get_or, take, drop, arith}
+use Rattle.std.proofs.Common.{◌≡◌, ℕ, zero, suc, ◌+◌, ◌-◌, ◌<◌, ◌==◌, Bool, true, List, [], ◌∷◌, ◌++◌, refl, sym, ap, ◌∙◌, map, length, get_or, take, drop, arith}
 use Rattle.std.proofs.Math.ListN.{set}
-use Rattle.std.proofs.lemmas.List.{append-nil}
+use Rattle.std.proofs.lemmas.List.{append-nil, append_assoc, map-append}
 use Rattle.hal_base.specs.declared.value.Value.{Value}
 use Rattle.hal_base.specs.declared.record.Record.{Record}
 use Rattle.hal_base.specs.Meaning.{Meaning}
@@ -14,8 +14,10 @@ use Rattle.plain_job.specs.Laws.{part}
 use Rattle.plain_job.specs.Chain.{numbers_from, part_out, together}
 use Rattle.plain_job.proofs.Keeps.{keeps}
 use Rattle.plain_job.proofs.Parted.{parts}
-use Rattle.plain_job.proofs.Tables.{part_more}
-use Rattle.memory_run.specs.Steps.{first_section, later_sections, sections}
+use Rattle.memory_run.specs.declared.sections.Spill.{Spill}
+use Rattle.memory_run.specs.declared.streams.Stream.{Stream}
+use Rattle.memory_run.specs.Steps.{first_section, later_sections, left_of, rows_of, sections}
+use Rattle.memory_run.specs.Supplies.{parts_made}
 
 -- one section in order is its own merge
 pub alone_merged : (rows : List Record) (alone : List (List Record)) → alone ≡ rows ∷ [] → Ascending record_cmp rows → sorted record_cmp (together alone) ≡ rows
@@ -41,23 +43,29 @@ later_of : (m : Meaning) (i j p n : ℕ) (streams : List (List Record)) → map 
 later_of m i j p n [] = refl
 later_of m i j p n (rows ∷ streams) = ap (λ ys. sections m i j (p + 1) n rows ∷ ys) (later_of m i j p n streams)
 
--- one part more: what the first sections give, and the sections after them
-pub part_taken : (m : Meaning) (i j p n : ℕ) (all : List (List Record)) (before now after left : List (List (List Record))) (out : List (List Record)) (rows : List Record) → p < n → now ≡ before → before ≡ map (sections m i j p (n - p)) all → after ≡ map later_sections now → left ≡ after → rows ≡ job (m.reduce i j) (λ _. true) (map first_section now) → out ≡ map (part_out m i j all) (numbers_from 0 p) → (out ++ rows ∷ [] ≡ map (part_out m i j all) (numbers_from 0 (p + 1))) × (left ≡ map (sections m i j (p + 1) (n - (p + 1))) all)
-part_taken m i j p n all before now after left out rows l same is later kept made so_far =
-    let more : n - p ≡ suc (n - (p + 1)) = omega arith in
-    let whole : now ≡ map (sections m i j p (suc (n - (p + 1)))) all = same ∙ is ∙ ap (λ k. map (sections m i j p k) all) more in
-    let first : rows ≡ part_out m i j all p =
-    made ∙ ap (λ ss. job (m.reduce i j) (λ _. true) (map first_section ss)) whole ∙ ap (job (m.reduce i j) (λ _. true)) (first_of m i j p (n - (p + 1)) all) ∙ sections_make_the_part m i j p all
+-- the parts made of the sections of streams, part by part, are the parts of the step
+pub parts_are : (m : Meaning) (i j p n : ℕ) (streams : List (List Record)) → parts_made (job (m.reduce i j) (λ _. true)) n (map (sections m i j p n) streams) ≡ map (part_out m i j streams) (numbers_from p n)
+parts_are m i j p zero streams = refl
+parts_are m i j p (suc n) streams =
+    let makes : List (List Record) → List Record = job (m.reduce i j) (λ _. true) in
+    let first : makes (map first_section (map (sections m i j p (suc n)) streams)) ≡ part_out m i j streams p = ap makes (first_of m i j p n streams) ∙ sections_make_the_part m i j p streams in
+    let later : parts_made makes n (map later_sections (map (sections m i j p (suc n)) streams)) ≡ map (part_out m i j streams) (numbers_from (p + 1) n) =
+    ap (parts_made makes n) (later_of m i j p n streams) ∙ parts_are m i j (p + 1) n streams
     in
-    let added : out ++ rows ∷ [] ≡ map (part_out m i j all) (numbers_from 0 p) ++ part_out m i j all p ∷ [] = rw (so_far, first) in
-    (added ∙ part_more (part_out m i j all) p, kept ∙ later ∙ ap (map later_sections) whole ∙ later_of m i j p (n - (p + 1)) all)
+    ap (λ x. x ∷ parts_made makes n (map later_sections (map (sections m i j p (suc n)) streams))) first ∙ ap (λ xs. part_out m i j streams p ∷ xs) later
 
-same : (spills : List (List (List Record))) → map (λ spill. spill) spills ≡ spills
-same [] = refl
-same (spill ∷ spills) = ap (λ ys. spill ∷ ys) (same spills)
+-- one part more: what the first sections give, and what is to be made of the sections after them
+pub one_part_more : (makes : List (List Record) → List Record) (n p : ℕ) (now after : List (List (List Record))) (out whole : List (List Record)) (rows : List Record) → p < n → after ≡ map later_sections now → rows ≡ makes (map first_section now) → out ++ parts_made makes (n - p) now ≡ whole → (out ++ rows ∷ []) ++ parts_made makes (n - (p + 1)) after ≡ whole
+one_part_more makes n p now after out whole rows l later made so_far =
+    let more : n - p ≡ suc (n - (p + 1)) = omega arith in
+    let next : parts_made makes (n - p) now ≡ rows ∷ parts_made makes (n - (p + 1)) after = ap (λ k. parts_made makes k now) more ∙ rw (later, made) refl in
+    append_assoc out (rows ∷ []) (parts_made makes (n - (p + 1)) after) ∙ ap (λ xs. out ++ xs) (sym next) ∙ so_far
 
 -- the first section taken of one spill more
-pub one_taken : (all now : List (List (List Record))) (k : ℕ) (spill left : List (List Record)) → k < length now → now ≡ map later_sections (take k all) ++ drop k all → spill ≡ get_or now k spill → left ≡ later_sections (get_or now k spill) → (set now k left ≡ map later_sections (take (k + 1) all) ++ drop (k + 1) all) × (map first_section (take k all) ++ first_section spill ∷ [] ≡ map first_section (take (k + 1) all))
-one_taken all now k spill left l e is later =
-    let p = pass_over (λ (s : List (List Record)). s) later_sections first_section all now k spill left l (same now ∙ e) is later in
-    (sym (same (set now k left)) ∙ p.0, p.1)
+pub one_taken : (all : List (List (List Record))) (now : List Spill) (k : ℕ) (spill left : Spill) → k < length now → map left_of now ≡ map later_sections (take k all) ++ drop k all → spill ≡ get_or now k spill → left_of left ≡ later_sections (left_of (get_or now k spill)) → (map left_of (set now k left) ≡ map later_sections (take (k + 1) all) ++ drop (k + 1) all) × (map first_section (take k all) ++ first_section (left_of spill) ∷ [] ≡ map first_section (take (k + 1) all))
+one_taken all now k spill left l e is later = pass_over left_of later_sections first_section all now k spill left l e is later
+
+-- one stream more stands beside the first section that it has
+pub one_begun : (firsts more : List (List Record)) (streams pushed : List Stream) (stream : Stream) (rows : List Record) → pushed ≡ streams ++ stream ∷ [] → rows_of stream ≡ rows → map rows_of streams ≡ firsts → firsts ++ rows ∷ [] ≡ more → map rows_of pushed ≡ more
+one_begun firsts more streams pushed stream rows added is before all =
+    ap (map rows_of) added ∙ map-append rows_of streams (stream ∷ []) ∙ ap (λ xs. xs ++ rows_of stream ∷ []) before ∙ ap (λ x. firsts ++ x ∷ []) is ∙ all

@@ -1,15 +1,13 @@
 -- Splits dealt one after another.
-use Rattle.std.proofs.Common.{◌≡◌, ℕ, ◌+◌, ◌<◌, List, [], ◌∷◌, ◌++◌, refl, sym, ap, ◌∙◌, map, length, get_or, drop, replicate}
-use Rattle.std.proofs.lemmas.List.{append_assoc, at_drop_more, length-replicate}
+use Rattle.std.proofs.Common.{◌≡◌, ℕ, ◌+◌, ◌<◌, List, [], ◌∷◌, refl, sym, ap, ◌∙◌, map, length, get_or, drop, replicate}
+use Rattle.std.proofs.lemmas.List.{at_drop_more, length-replicate}
 use Rattle.std.proofs.lemmas.Grind.{flat_map-append}
 use Rattle.hal_base.specs.declared.record.Record.{Record}
-use Rattle.hal_base.specs.declared.shape.Origin.{Origin}
-use Rattle.hal_base.specs.declared.shape.Source.{Source}
 use Rattle.hal_base.specs.Meaning.{Meaning}
 use Rattle.hal_base.specs.Order.{record_cmp}
 use Rattle.hal_base.specs.Sorted.{sorted}
 use Rattle.plain_job.specs.Job.{stream}
-use Rattle.plain_job.specs.Chain.{streams, together}
+use Rattle.plain_job.specs.Chain.{together}
 use Rattle.partition_shuffle.specs.Spills.{dealt, spilled}
 use Rattle.partition_shuffle.proofs.Dealing.{length-dealt, dealt_twice, dealt_end, dealt_sorted}
 
@@ -48,12 +46,3 @@ module _ {m : Meaning} {i j s n : ℕ} where
       dealt_end m i j spilling (dealt m i j 0 (replicate n []) emitted) (stream means (together splits)) (ap (λ xs. stream means (together xs)) none) d.left
       in
       dealt_sorted m i j n emitted (replicate n []) spilling refl is
-
--- one source more is cut into its sections
-pub source_more : (m : Meaning) (i j n k : ℕ) (rows : Origin → List Record) (cut : List Record → List (List Record)) (found more whole : List (List (List Record))) (all : List Source) (source : Source) (spill : List (List Record)) → k < length all → source ≡ get_or all k source → spill ≡ cut (stream (m.map i j n) (rows source.from)) → more ≡ found ++ spill ∷ [] → found ++ map cut (streams m i j rows n (drop k all)) ≡ whole → more ++ map cut (streams m i j rows (n + 1) (drop (k + 1) all)) ≡ whole
-source_more m i j n k rows cut found more whole all source spill l e made added so_far =
-    let later : List (List (List Record)) = map cut (streams m i j rows (n + 1) (drop (k + 1) all)) in
-    let here : map cut (streams m i j rows n (drop k all)) ≡ spill ∷ later =
-    at_drop_more (λ xs. map cut (streams m i j rows n xs)) all k source l ∙ ap (λ (x : Source). cut (stream (m.map i j n) (rows x.from)) ∷ later) (sym e) ∙ ap (λ x. x ∷ later) (sym made)
-    in
-    ap (λ xs. xs ++ later) added ∙ append_assoc found (spill ∷ []) later ∙ ap (λ xs. found ++ xs) (sym here) ∙ so_far

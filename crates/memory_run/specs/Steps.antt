@@ -11,6 +11,20 @@ use Rattle.plain_job.specs.Laws.{part}
 use Rattle.plain_job.specs.Chain.{numbers_from, part_out}
 use Rattle.fixpoint_test.specs.declared.decision.Next.{Next}
 use Rattle.fixpoint_test.specs.declared.decision.Next.TheVariants as next
+use Rattle.memory_run.specs.declared.sections.Spill.{Spill}
+use Rattle.memory_run.specs.declared.sections.Spill.TheVariants as spill
+use Rattle.memory_run.specs.declared.streams.Stream.{Stream}
+use Rattle.memory_run.specs.declared.streams.Stream.TheVariants as stream
+
+-- the records that are left of a stream
+abbrev pub rows_of : Stream → List Record
+rows_of (stream.Own rows) = rows
+rows_of (stream.Lent rows) = rows
+
+-- the sections that are left of a spill
+abbrev pub left_of : Spill → List (List Record)
+left_of (spill.Own sections) = sections
+left_of (spill.Lent sections) = sections
 
 -- the first of some sections
 abbrev pub first_section : List (List Record) → List Record

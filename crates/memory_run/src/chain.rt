@@ -1,38 +1,51 @@
-ghost use Rattle.std.specs.Prelude.{◌≡◌, ◌≤◌, length, IfOk};
+ghost use Rattle.std.specs.Prelude.{◌≡◌, ◌≤◌, [], List, length, IfOk};
+ghost use Rattle.hal_base.specs.declared.record.Record.{Record as Row};
+ghost use Rattle.plain_job.specs.Chain.{last_out, steps_out, together};
 ghost use Rattle.plain_job.specs.Plain.{FewSteps, IsPlainChain};
 ghost use Rattle.memory_run.specs.Fits.{Fits};
 ghost use Rattle.memory_run.specs.Steps as steps;
+ghost use Rattle.memory_run.specs.Supplies.{FewServed, Serve};
 
 use crate::distance::distance_of;
+use crate::first::first_round;
+use crate::kept::plan_of;
 use crate::round::round_out;
-use crate::sources::{Inputs, table_splits};
+use crate::sources::Inputs;
+use crate::supply::Supplies;
 use fixpoint_test::{Next, decide};
 use hal_base::{Functions, Memory, Parts, Records, Shape, Tables};
 use plain_job::{End, PlainChain};
 use std::alloc::Global;
 
-/// The unrolled chain of a program, whose functions fit its shape. Tables are read where they stand,
-/// and of the rounds only the last two are kept.
+/// The first round: the parts that it leaves, and the tables and supplies of the rounds after it.
+#[derive(Drop)]
+struct Begun {
+    tables: Vec<Records>,
+    plan: Vec<Supplies>,
+    parts: Parts,
+}
+
+/// The unrolled chain of a program, whose functions fit its shape. What a source has in all rounds is
+/// made once, a table that no source reads again is given up, and of the rounds only the last two are
+/// kept.
 /// docs/SEMANTICS.md, "The unrolled chain".
 pub fn chain_in_memory<F: Functions>(
     alloc: Global,
     functions: &F,
     shape: &Shape,
-    tables: &Tables,
+    tables: Tables,
 ) -> Result<PlainChain, Memory>
     requires parts { (1 ≤ shape.now.parts) × (shape.now.parts ≤ 64) }
     requires rounds { 1 ≤ shape.now.rounds }
     requires steps { (1 ≤ length shape.now.steps) × FewSteps shape.now.steps }
     requires fits { Fits (F.meaning functions.now) shape.now }
-    ensures { IfOk result (IsPlainChain (F.meaning functions.now) shape.now tables.now) }
+    ensures { IfOk result (IsPlainChain (F.meaning functions.now) shape.now tables) }
 {
-    let first = Inputs {
-        shape,
-        tables,
-        round: 1,
-        state: table_splits(tables, shape.start),
-    };
-    let mut parts = round_out(alloc, functions, &first)?;
+    let Begun {
+        tables: left,
+        plan,
+        mut parts,
+    } = begin(alloc, functions, shape, tables)?;
     let mut round = 1;
     let mut next = decide(1, None, shape.threshold, shape.exact, shape.rounds);
     'rounds: loop {
@@ -44,17 +57,59 @@ pub fn chain_in_memory<F: Functions>(
             });
         }
         round += 1;
-        let inputs = Inputs {
-            shape,
-            tables,
-            round,
-            state: parts.as_slice(),
-        };
-        let left = round_out(alloc, functions, &inputs)?;
-        let far = distance_of(alloc, functions, shape, &parts, &left)?;
+        let out = later_round(alloc, functions, shape, &left, &plan, round, &parts)?;
+        let far = distance_of(alloc, functions, shape, &parts, &out)?;
         next = decide(round, Some(far), shape.threshold, shape.exact, shape.rounds);
-        parts = left;
+        parts = out;
     }
+}
+
+/// Makes what is kept over the rounds, and does the first.
+fn begin<F: Functions>(
+    alloc: Global,
+    functions: &F,
+    shape: &Shape,
+    tables: Tables,
+) -> Result<Begun, Memory>
+    requires parts { (1 ≤ shape.now.parts) × (shape.now.parts ≤ 64) }
+    requires steps { FewSteps shape.now.steps }
+    requires fits { Fits (F.meaning functions.now) shape.now }
+    ensures few { IfOk result (λ it. FewServed it.plan.items) }
+    ensures serve { IfOk result (λ it. Serve (F.meaning functions.now) shape.now tables it.tables.items it.plan.items) }
+    ensures parts { IfOk result (λ it. it.parts ≡ last_out (F.meaning functions.now) shape.now tables 0) }
+{
+    let mut tables = tables.into_vec();
+    let left = tables.as_mut_slice();
+    let plan = plan_of(alloc, functions, shape, left)?;
+    let parts = first_round(alloc, functions, shape, &plan, left)?;
+    Ok(Begun {
+        tables,
+        plan,
+        parts,
+    })
+}
+
+/// The parts that the last step leaves in a round after the first, whose state is what it left before.
+fn later_round<F: Functions>(
+    alloc: Global,
+    functions: &F,
+    shape: &Shape,
+    tables: &[Records],
+    plan: &[Supplies],
+    round: u32,
+    before: &Parts,
+) -> Result<Parts, Memory>
+    requires fits { Fits (F.meaning functions.now) shape.now }
+    requires few { FewServed plan.now }
+    ensures { IfOk result (λ out. (real : List (List Row)) → Serve (F.meaning functions.now) shape.now real tables.now plan.now → out ≡ steps_out (F.meaning functions.now) shape.now real round 1 (together before.now) [] shape.now.steps) }
+{
+    let inputs = Inputs {
+        shape,
+        tables,
+        round,
+        state: before.as_slice(),
+    };
+    round_out(alloc, functions, &inputs, None, plan)
 }
 
 /// The end of a chain. `None` where there is another round.

@@ -3,8 +3,13 @@
 
 mod chain;
 mod distance;
+mod first;
+mod give_up;
+mod kept;
 mod round;
 mod sections;
 mod sources;
+mod streams;
+mod supply;
 
 pub use chain::chain_in_memory;

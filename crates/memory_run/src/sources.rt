@@ -1,14 +1,14 @@
 ghost use Rattle.std.specs.Prelude.{◌≡◌, ◌≤◌, [], map, IfOk, OnOk, length};
-ghost use Rattle.plain_job.specs.Chain as chain;
-ghost use Rattle.plain_job.specs.Chain.{streams, source_rows, table_at, together};
+ghost use Rattle.plain_job.specs.Chain.{source_rows, table_at, together};
 ghost use Rattle.plain_job.specs.Job.{stream};
-ghost use Rattle.plain_job.specs.Plain.{FewSources};
 ghost use Rattle.partition_shuffle.specs.Spills.{dealt, spilled};
 ghost use Rattle.memory_run.specs.Fits.{Fits};
-ghost use Rattle.memory_run.specs.Steps.{sections};
+ghost use Rattle.memory_run.specs.Steps.{left_of};
+ghost use Rattle.memory_run.specs.Supplies.{FewSupplies, all_given, given, with_first};
 
-use crate::sections::Sections;
-use hal_base::{Functions, Memory, Origin, Parts, Records, Shape, Source, Sources, Tables};
+use crate::sections::{Sections, Spill};
+use crate::supply::Supply;
+use hal_base::{Functions, Memory, Origin, Parts, Records, Shape};
 use partition_shuffle::Spilling;
 use std::alloc::Global;
 
@@ -16,91 +16,102 @@ use std::alloc::Global;
 #[derive(Drop)]
 pub(crate) struct Inputs<'a> {
     pub(crate) shape: &'a Shape,
-    pub(crate) tables: &'a Tables,
+    pub(crate) tables: &'a [Records],
     pub(crate) round: u32,
     pub(crate) state: &'a [Records],
 }
 
-/// The sections of each source of a step.
-pub(crate) fn spills_of<F: Functions>(
+/// The spill of each source of a step. Those of the first are made already, where they are handed in.
+pub(crate) fn spills_of<'a, F: Functions>(
     alloc: Global,
     functions: &F,
     inputs: &Inputs,
     step: u32,
+    made: Option<Sections>,
     before: Parts,
-    sources: &Sources,
-) -> Result<Vec<Sections>, Memory>
+    supplies: &'a [Supply],
+) -> Result<Vec<Spill<'a>>, Memory>
     requires fits { Fits (F.meaning functions.now) inputs.now.shape.now }
-    requires few { FewSources sources.now }
-    ensures { IfOk result (λ spills. spills.items ≡ map (sections (F.meaning functions.now) inputs.now.round step 0 inputs.now.shape.now.parts) (streams (F.meaning functions.now) inputs.now.round step (source_rows inputs.now.tables.now inputs.now.round (together inputs.now.state.now) (together before)) 1 sources.now)) }
+    requires few { FewSupplies supplies.now }
+    ensures { IfOk result (λ spills. map left_of spills.items ≡ all_given (F.meaning functions.now) inputs.now.shape.now.parts (source_rows inputs.now.tables.now inputs.now.round (together inputs.now.state.now) (together before)) inputs.now.round step 1 (with_first made supplies.now)) }
 {
-    let Some((first, others)) = sources.as_slice().split_first() else {
+    let Some((first, others)) = supplies.split_first() else {
         return Ok(Vec::new(alloc));
     };
     // The first comes last, since it may be the one that uses up what stands before.
     let mut spills = spill_others(alloc, functions, inputs, step, before.as_slice(), others)?;
-    let spill = spill_first(alloc, functions, inputs, step, before, &first.from)?;
+    let spill = match made {
+        Some(sections) => sections.into_spill(),
+        None => spill_first(alloc, functions, inputs, step, before, first)?,
+    };
     spills.insert(0, spill)?;
     Ok(spills)
 }
 
-/// The sections of each source from the second on.
-fn spill_others<F: Functions>(
+/// The spill of each source from the second on.
+fn spill_others<'a, F: Functions>(
     alloc: Global,
     functions: &F,
     inputs: &Inputs,
     step: u32,
     before: &[Records],
-    others: &[Source],
-) -> Result<Vec<Sections>, Memory>
+    others: &'a [Supply],
+) -> Result<Vec<Spill<'a>>, Memory>
     requires fits { Fits (F.meaning functions.now) inputs.now.shape.now }
     requires few { length others.now ≤ 7 }
-    ensures { IfOk result (λ spills. spills.items ≡ map (sections (F.meaning functions.now) inputs.now.round step 0 inputs.now.shape.now.parts) (streams (F.meaning functions.now) inputs.now.round step (source_rows inputs.now.tables.now inputs.now.round (together inputs.now.state.now) (together before.now)) 2 others.now)) }
+    ensures { IfOk result (λ spills. map left_of spills.items ≡ all_given (F.meaning functions.now) inputs.now.shape.now.parts (source_rows inputs.now.tables.now inputs.now.round (together inputs.now.state.now) (together before.now)) inputs.now.round step 2 others.now) }
 {
     let mut spills = Vec::new(alloc);
     let mut number: u32 = 1;
-    'sources: for source in others {
+    'sources: for supply in others {
         number += 1;
-        let spill = spill_source(alloc, functions, inputs, step, number, before, &source.from)?;
+        let spill = spill_source(alloc, functions, inputs, step, number, before, supply)?;
         spills.push(spill)?;
     }
     Ok(spills)
 }
 
-/// The sections of the first source. Of what stands before, each part goes as soon as it is dealt,
-/// so that it and its spill are not both whole in memory.
-fn spill_first<F: Functions>(
+/// The spill of the first source. Of what stands before, each part goes as soon as it is dealt, so
+/// that it and its spill are not both whole in memory.
+fn spill_first<'a, F: Functions>(
     alloc: Global,
     functions: &F,
     inputs: &Inputs,
     step: u32,
     before: Parts,
-    from: &Origin,
-) -> Result<Sections, Memory>
+    supply: &'a Supply,
+) -> Result<Spill<'a>, Memory>
     requires { Fits (F.meaning functions.now) inputs.now.shape.now }
-    ensures { IfOk result (λ spill. spill ≡ spilled (F.meaning functions.now) inputs.now.round step 1 (source_rows inputs.now.tables.now inputs.now.round (together inputs.now.state.now) (together before) from.now) inputs.now.shape.now.parts) }
+    ensures { IfOk result (λ spill. left_of spill ≡ given (F.meaning functions.now) inputs.now.shape.now.parts (source_rows inputs.now.tables.now inputs.now.round (together inputs.now.state.now) (together before)) inputs.now.round step 1 supply.now) }
 {
-    if let Origin::Prev = from {
-        return spill_parts(alloc, functions, inputs, step, before);
+    if let Supply::Read(Origin::Prev) = supply {
+        let sections = spill_parts(alloc, functions, inputs, step, before)?;
+        return Ok(sections.into_spill());
     }
-    spill_source(alloc, functions, inputs, step, 1, before.as_slice(), from)
+    spill_source(alloc, functions, inputs, step, 1, before.as_slice(), supply)
 }
 
-/// The sections of a source.
-fn spill_source<F: Functions>(
+/// The spill of a source.
+fn spill_source<'a, F: Functions>(
     alloc: Global,
     functions: &F,
     inputs: &Inputs,
     step: u32,
     source: u32,
     before: &[Records],
-    from: &Origin,
-) -> Result<Sections, Memory>
+    supply: &'a Supply,
+) -> Result<Spill<'a>, Memory>
     requires { Fits (F.meaning functions.now) inputs.now.shape.now }
-    ensures { IfOk result (λ spill. spill ≡ spilled (F.meaning functions.now) inputs.now.round step source (source_rows inputs.now.tables.now inputs.now.round (together inputs.now.state.now) (together before.now) from.now) inputs.now.shape.now.parts) }
+    ensures { IfOk result (λ spill. left_of spill ≡ given (F.meaning functions.now) inputs.now.shape.now.parts (source_rows inputs.now.tables.now inputs.now.round (together inputs.now.state.now) (together before.now)) inputs.now.round step source supply.now) }
 {
-    let splits = splits_of(inputs, before, from);
-    spill_splits(alloc, functions, inputs, step, source, splits)
+    match supply {
+        Supply::Kept(sections) => Ok(sections.lend()),
+        Supply::Read(from) => {
+            let splits = splits_of(inputs, before, from);
+            let sections = spill_splits(alloc, functions, inputs, step, source, splits)?;
+            Ok(sections.into_spill())
+        }
+    }
 }
 
 /// The sections of a source that reads these splits.
@@ -113,7 +124,7 @@ fn spill_splits<F: Functions>(
     splits: &[Records],
 ) -> Result<Sections, Memory>
     requires { Fits (F.meaning functions.now) inputs.now.shape.now }
-    ensures { IfOk result (λ spill. spill ≡ spilled (F.meaning functions.now) inputs.now.round step source (together splits.now) inputs.now.shape.now.parts) }
+    ensures { IfOk result (λ sections. sections ≡ spilled (F.meaning functions.now) inputs.now.round step source (together splits.now) inputs.now.shape.now.parts) }
 {
     let parts = inputs.shape.parts;
     let mut spilling = Spilling::new(alloc, parts, share_of(splits, parts))?;
@@ -132,7 +143,7 @@ fn spill_parts<F: Functions>(
     before: Parts,
 ) -> Result<Sections, Memory>
     requires { Fits (F.meaning functions.now) inputs.now.shape.now }
-    ensures { IfOk result (λ spill. spill ≡ spilled (F.meaning functions.now) inputs.now.round step 1 (together before) inputs.now.shape.now.parts) }
+    ensures { IfOk result (λ sections. sections ≡ spilled (F.meaning functions.now) inputs.now.round step 1 (together before) inputs.now.shape.now.parts) }
 {
     let parts = inputs.shape.parts;
     let mut spilling = Spilling::new(alloc, parts, share_of(before.as_slice(), parts))?;
@@ -184,27 +195,20 @@ fn splits_of<'a>(inputs: &Inputs<'a>, before: &'a [Records], from: &Origin) -> &
             if inputs.round == *only {
                 table_splits(inputs.tables, *table)
             } else {
-                none_of(inputs.tables)
+                &[]
             }
         }
     }
 }
 
 /// The table of this number as a split alone, or no split where there is no such table.
-pub(crate) fn table_splits(tables: &Tables, number: u32) -> &[Records]
+pub(crate) fn table_splits(tables: &[Records], number: u32) -> &[Records]
     ensures { together result.now ≡ table_at tables.now number }
 {
-    let all = tables.as_slice();
     let at = number as usize;
-    if at < all.len() {
-        &all[at..at + 1]
+    if at < tables.len() {
+        &tables[at..at + 1]
     } else {
-        none_of(tables)
+        &[]
     }
-}
-
-fn none_of(tables: &Tables) -> &[Records]
-    ensures { result.now ≡ [] }
-{
-    &tables.as_slice()[..0]
 }
