@@ -148,6 +148,13 @@ refused() {
     wants_none out
 }
 
+# wrong LINE WHAT: the job is not done, since this is wrong with the program in this line.
+wrong() {
+    job
+    wants 2 "error: program line $1: $2\n"
+    wants_none out
+}
+
 # absent FILE: the job is not done, since this file is not there.
 absent() {
     job
@@ -271,20 +278,45 @@ refused_form() {
     refused
 }
 
+# wrong_form NAME LINE NUMBER TEXT: another line in the program, which has a fault of syntax in line LINE.
+wrong_form() {
+    row "program: $1"
+    form "$3" "$4"
+    wrong "$2" syntax
+}
+
+# free_form NAME NUMBER TEXT: the same line in another layout.
+free_form() {
+    row "program: $1"
+    form "$2" "$3"
+    part "$least"
+}
+
 for number in 1 2 3 4 5 6 7; do
     line=${form_lines[number - 1]}
-    refused_form "no line $number" "$number" ''
-    refused_form "line $number twice" "$number" "$line\n$line\n"
-    refused_form "CR LF at line $number" "$number" "$line\r\n"
-    refused_form "no LF at line $number" "$number" "$line"
-    refused_form "a blank is missing at line $number" "$number" "${line/ /}\n"
-    refused_form "two blanks at line $number" "$number" "${line/ /  }\n"
-    refused_form "a tab for the blank at line $number" "$number" "${line/ /\\t}\n"
-    refused_form "a blank in front of line $number" "$number" " $line\n"
-    refused_form "a blank behind line $number" "$number" "$line \n"
-    refused_form "no last byte at line $number" "$number" "${line%?}\n"
-    refused_form "a capital letter at line $number" "$number" "${line^}\n"
+    next=$((number + 1))
+    wrong_form "no line $number" "$number" "$number" ''
+    if [ "$number" -ne 5 ]; then
+        wrong_form "line $number twice" "$next" "$number" "$line\n$line\n"
+    fi
+    free_form "CR LF at line $number" "$number" "$line\r\n"
+    free_form "no LF at line $number" "$number" "$line"
+    if [ "$number" -ne 7 ]; then
+        wrong_form "a blank is missing at line $number" "$number" "$number" "${line/ /}\n"
+    fi
+    free_form "two blanks at line $number" "$number" "${line/ /  }\n"
+    free_form "a tab for the blank at line $number" "$number" "${line/ /\\t}\n"
+    free_form "an LF for the blank at line $number" "$number" "${line/ /\\n}\n"
+    free_form "a comment for the blank at line $number" "$number" "${line/ /# \"no; text\\n}\n"
+    free_form "a blank in front of line $number" "$number" " $line\n"
+    free_form "a blank behind line $number" "$number" "$line \n"
+    free_form "a comment behind line $number" "$number" "$line# \0303\0251 \0001 ; }\n"
+    wrong_form "no last byte at line $number" "$next" "$number" "${line%?}\n"
+    wrong_form "a capital letter at line $number" "$number" "$number" "${line^}\n"
+    wrong_form "a byte above 0x7F at line $number" "$number" "$number" "\0303\0251$line\n"
 done
+free_form 'no blank before a mark' 7 'step{state by same;reduce least;}\n'
+refused_form 'the line of the table twice' 5 "${form_lines[4]}\n${form_lines[4]}\n"
 
 name_31=a_1234567890_1234567890_1234567
 name_32=${name_31}8
@@ -294,9 +326,9 @@ file_256=$(printf 'f%.0s' {1..256})
 while IFS='|' read -r name word; do
     row "program: $name as a name"
     form 1 "program $word;\n"
-    refused
+    wrong 1 syntax
     form 5 "table $word \"t.tsv\" (int, int);\n" 6 "begin $word;\n"
-    refused
+    wrong 5 syntax
 done <<END
 no byte|
 32 bytes|$name_32
@@ -313,56 +345,262 @@ row 'program: a reserved word as a name'
 for word in program parts rounds stop exact below by cache reducer_input reducer_output mapper_input table begin \
     step state prev round reduce map distance partition let set if else for in emit give int text; do
     form 1 "program $word;\n"
-    refused
+    wrong 1 syntax
     form 5 "table $word \"t.tsv\" (int, int);\n" 6 "begin $word;\n"
-    refused
+    wrong 5 syntax
 done
 
+# Each line that has a fault of syntax.
 while IFS='|' read -r name number line; do
-    refused_form "$name" "$number" "$line\n"
+    wrong_form "$name" "$number" "$number" "$line\n"
 done <<END
 another first word|1|programs least;
-parts 0|2|parts 0;
 parts 01|2|parts 01;
+parts -1|2|parts -1;
+parts -0|2|parts -0;
+parts -007|2|parts -007;
+parts 12a|2|parts 12a;
+parts above 64 bits|2|parts 9223372036854775808;
+a name for parts|2|parts one;
 another word for parts|2|part 1;
-rounds 0|3|rounds 0;
 another word for rounds|3|round 1;
-another stop|4|stop below 1;
+half of another stop|4|stop below 1;
+a negative threshold|4|stop below -1 by f;
 another word for exact|4|stop exactly;
+caches in another order|4|stop exact; cache reducer_output; cache reducer_input;
+a cache twice|4|stop exact; cache mapper_input; cache mapper_input;
+another cache|4|stop exact; cache reducer_inputs;
 another word for table|5|tables t "t.tsv" (int, int);
-another table at the beginning|6|begin u;
-a longer table at the beginning|6|begin tt;
-another word for begin|6|start t;
-a text as the key|5|table t "t.tsv" (text, int);
-a text as the field|5|table t "t.tsv" (int, text);
-one kind|5|table t "t.tsv" (int);
-three kinds|5|table t "t.tsv" (int, int, int);
-no blank between the kinds|5|table t "t.tsv" (int,int);
-a file name with no byte|5|table t "" (int, int);
+another kind|5|table t "t.tsv" (int, number);
+a comma behind the kinds|5|table t "t.tsv" (int, int,);
+no comma between the kinds|5|table t "t.tsv" (int int);
 a file name of 256 bytes|5|table t "$file_256" (int, int);
-a file name with a backslash|5|table t "t\\\\.tsv" (int, int);
-a file name with a quotation mark|5|table t "t"t.tsv" (int, int);
+a file name with a backslash alone|5|table t "t\\\\.tsv" (int, int);
+a file name with a quotation mark alone|5|table t "t"t.tsv" (int, int);
+a file name that is not ended|5|table t "t.tsv (int, int);
 a file name with a tab|5|table t "t\t.tsv" (int, int);
 a file name with DEL|5|table t "t\0177.tsv" (int, int);
 a file name that is no ASCII|5|table t "\0303\0251.tsv" (int, int);
 a file name with no quotation marks|5|table t t.tsv (int, int);
-another map|7|step { state by other; reduce least; }
-another reduce|7|step { state by same; reduce greatest; }
+another word for begin|6|start t;
 another source|7|step { prev by same; reduce least; }
 the state twice|7|step { state by same; state by same; reduce least; }
+a partition before the reduce|7|step { state by same; partition p; reduce least; }
+a mark too many|7|step { state by same; reduce least; } }
 END
+
+# Each line that makes it a program of another form.
+while IFS='|' read -r name number line; do
+    refused_form "$name" "$number" "$line\n"
+done <<END
+parts 0|2|parts 0;
+rounds 0|3|rounds 0;
+another stop|4|stop below 1 by f;
+all caches|4|stop exact; cache reducer_input; cache reducer_output; cache mapper_input;
+another table at the beginning|6|begin u;
+a longer table at the beginning|6|begin tt;
+a text as the key|5|table t "t.tsv" (text, int);
+a text as the field|5|table t "t.tsv" (int, text);
+no kind|5|table t "t.tsv" ();
+one kind|5|table t "t.tsv" (int);
+three kinds|5|table t "t.tsv" (int, int, int);
+a file name with no byte|5|table t "" (int, int);
+a file name with a backslash|5|table t "t\\\\\\\\.tsv" (int, int);
+a file name with a quotation mark|5|table t "t\\\\".tsv" (int, int);
+another map|7|step { state by other; reduce least; }
+another reduce|7|step { state by same; reduce greatest; }
+END
+
+free_form 'no blank between the kinds' 5 'table t "t.tsv" (int,int);\n'
 
 row 'program: empty'
 put p.hal ''
+wrong 1 syntax
+
+row 'program: blanks and comments alone'
+put p.hal ' \t\r\n# program least;\n\n  '
+wrong 4 syntax
+
+free_form 'an empty line at the end' 7 "${form_lines[6]}\n\n"
+free_form 'a comment that does not end' 7 "${form_lines[6]} # no end"
+free_form 'a comment in front' 1 "# one\n#two\n${form_lines[0]}\n"
+wrong_form 'a NUL byte at the end' 8 7 "${form_lines[6]}\n\0000"
+wrong_form 'a bad token in the first place' 1 1 "?${form_lines[0]}\n"
+wrong_form 'a bad token in the last place' 7 7 "${form_lines[6]}?"
+wrong_form 'a bad token behind comments' 4 1 "# 1\n\n# 3\n?${form_lines[0]}\n"
+
+# filled BYTES: the program with a comment that makes it so long.
+filled() {
+    form
+    local size
+    size=$(wc -c <p.hal)
+    {
+        printf '#'
+        head -c $(($1 - size - 2)) /dev/zero | tr '\0' '-'
+        printf '\n'
+    } >>p.hal
+}
+
+row 'program: 1,048,576 bytes'
+filled 1048576
+part "$least"
+
+row 'program: 1,048,577 bytes'
+filled 1048577
+wrong 1 limit
+
+row 'program: 1,048,577 bytes, with a fault in line 1'
+filled 1048577
+printf '?' | dd of=p.hal conv=notrunc status=none
+wrong 1 limit
+
+# with_functions TEXT: the program with functions before `begin`, from line 6 on.
+with_functions() {
+    form 6 "$1${form_lines[5]}\n"
+}
+
+# Each function that the grammar has; the program is then of another form.
+while IFS='|' read -r name text; do
+    row "function: $name"
+    with_functions "$text\n"
+    refused
+done <<'END'
+a map|map f(k: int) -> (int) { emit(k); }
+a map of many parameters|map f(k: int, v: text, w: int) -> (int, text) { emit(k, v); }
+a reduce|reduce f(k: int; a: (int), b: ()) -> (int, int) { for (x) in a { emit(k, x); } }
+a distance|distance f(k: int; a: (int), b: (int)) { give(1); }
+a partition|partition f(k: text) { give(len(k)); }
+no statements|map f(k: int) -> () { }
+every statement|map f(k: int) -> (int) { let a = 1; set a = add(a, 2); if (a) { emit(a); } else { emit(k); } for () in s { } give(a); }
+an if without else|map f(k: int) -> (int) { if (k) { } emit(k); }
+nested calls|map f(k: int) -> (int) { emit(add(mul(k, k), round)); }
+a call of nothing|map f(k: int) -> (int) { emit(f()); }
+an emit of nothing|map f(k: int) -> (int) { emit(); }
+texts|map f(k: int) -> (text) { emit("a\\\\\\"b", ""); }
+the least number|map f(k: int) -> (int) { emit(-9223372036854775808); }
+the greatest number|map f(k: int) -> (int) { emit(9223372036854775807); }
+a name that only begins with a reserved word|map lets(if1: int) -> (int) { let emits = if1; emit(emits); }
+two functions of one name|map f(k: int) -> (int) { emit(k); } map f(k: int) -> (int) { emit(k); }
+END
+
+# Each function that has a fault of syntax in its third line, which is line 8 of the program.
+while IFS='|' read -r name text; do
+    row "function: $name"
+    with_functions "$text\n"
+    wrong 8 syntax
+done <<'END'
+a reserved word as a name|map\n\nlet(k: int) -> (int) { emit(k); }
+a reserved word as a variable|map f(k: int) -> (int) {\nlet\nround = 1; }
+a map with no parameter|map f\n(\n) -> (int) { emit(1); }
+a map with no arrow|map f(k: int)\n\n(int) { emit(k); }
+a blank in the arrow|map f(k: int)\n\n- > (int) { emit(k); }
+a reduce with no stream|reduce f(k: int;\n\n) -> (int) { emit(k); }
+a reduce of parameters|reduce f(k: int\n\n, v: (int)) -> (int) { emit(k); }
+a distance with an arrow|distance f(k: int; a: (int), b: (int))\n\n-> (int) { give(1); }
+a distance of one stream|distance f(k: int; a: (int)\n\n) { give(1); }
+a partition of two parameters|partition f(k: int\n\n, v: int) { give(1); }
+an else without an if|map f(k: int) -> (int) { emit(k);\n\nelse { emit(k); } }
+an else bound to nothing|map f(k: int) -> (int) { if (k) { } else\n\nemit(k); }
+two elses|map f(k: int) -> (int) { if (k) { } else { }\n\nelse { } }
+an if without a block|map f(k: int) -> (int) { if (k)\n\nemit(k); }
+a let without a value|map f(k: int) -> (int) { let a\n\n; }
+a set of a call|map f(k: int) -> (int) { set a\n\n(k) = 1; }
+no semicolon|map f(k: int) -> (int) { emit(k)\n\n}
+a give of two|map f(k: int) -> (int) { give(k\n\n, k); }
+an operator|map f(k: int) -> (int) { emit(k\n\n+ 1); }
+a comma too many|map f(k: int) -> (int) { emit(k,\n\n); }
+a statement that is a call|map f(k: int) -> (int) { emit(k);\n\nadd(k, k); }
+a number beyond 64 bits|map f(k: int) -> (int) { emit(\n\n-9223372036854775809); }
+a number with a 0 in front|map f(k: int) -> (int) { emit(\n\n007); }
+a minus alone|map f(k: int) -> (int) { emit(\n\n- 7); }
+a text that is not ended|map f(k: int) -> (int) { emit(\n\n"k); }
+a step in place of a function|map f(k: int) -> (int) { emit(k); }\n\nstep { state by same; reduce least; }
+END
+
+# nested NUMBER: so many blocks in one another in a map, the last of which opens in line 7.
+nested() {
+    printf 'map f(k: int) -> (int) %s\\n{%s}\\n' "$(repeated $(($1 - 1)) '{ if (k) ')" "$(repeated $(($1 - 1)) ' }')"
+}
+
+# called NUMBER: so many calls and one block around them in a map; the `(` of the last stands in line 7.
+called() {
+    printf 'map f(k: int) -> (int) { emit(%sg\\n(k)%s); }\\n' "$(repeated $(($1 - 1)) 'g(')" "$(repeated $(($1 - 1)) ')')"
+}
+
+# repeated NUMBER TEXT
+repeated() {
+    local number text=
+    for ((number = 0; number < $1; number++)); do
+        text+=$2
+    done
+    printf '%s' "$text"
+}
+
+row 'function: 32 blocks in one another'
+with_functions "$(nested 32)"
 refused
 
-row 'program: an empty line at the end'
-form 7 "${form_lines[6]}\n\n"
+row 'function: 33 blocks in one another'
+with_functions "$(nested 33)"
+wrong 7 syntax
+
+row 'function: 31 calls in one another, in a block'
+with_functions "$(called 31)"
 refused
 
-row 'program: a NUL byte at the end'
-form 7 "${form_lines[6]}\n\0000"
+row 'function: 32 calls in one another, in a block'
+with_functions "$(called 32)"
+wrong 7 syntax
+
+row 'function: 33 blocks, and what would follow is wrong too'
+with_functions "$(nested 33)?\n"
+wrong 7 syntax
+
+row 'function: 100,000 statements'
+{
+    printf '%s\n' "${form_lines[@]:0:5}"
+    printf 'partition f(k: int) {'
+    yes 'give(1);' | head -n 100000 | tr -d '\n'
+    printf '}\n'
+    printf '%s\n' "${form_lines[@]:5}"
+} >p.hal
 refused
+
+# The tokens of a program with functions, each in a line of its own, up to each of them.
+mapfile -t tokens < <(
+    sed 's/\([(){},;:=]\|->\)/ \1 /g; s/  */\n/g' <<'END' | sed '/^$/d'
+program p ; parts 2 ; rounds 3 ; stop below 4 by d ; cache reducer_input ; cache mapper_input ;
+table t "t.tsv" (int, text) ; table u "u.tsv" () ;
+map m (k: int, v: text) -> (int) { let a = add(1, round); if (a) { set a = -1; } else { emit(k); } }
+reduce r (k: int; s: (int), o: ()) -> () { for (x) in s { emit(x, "y"); } for () in o { } }
+distance d (k: int; a: (int), b: (int)) { give(1); }
+partition q (k: int) { give(0); }
+begin t ; step { state by m ; table u round 2 by same ; reduce r ; partition q ; }
+END
+)
+
+row 'program: cut behind each token'
+for ((number = 0; number < ${#tokens[@]}; number++)); do
+    (
+        IFS=$'\n'
+        printf '%s' "${tokens[*]:0:number}"
+    ) >p.hal
+    wrong "$((number > 1 ? number : 1))" syntax
+done
+(
+    IFS=$'\n'
+    printf '%s' "${tokens[*]}"
+) >p.hal
+refused
+
+row 'program: a mark too many behind each token'
+for ((number = 1; number < ${#tokens[@]}; number++)); do
+    (
+        IFS=$'\n'
+        printf '%s\n%s' "${tokens[*]:0:number}" '->'
+    ) >p.hal
+    [ "${tokens[number]}" = '->' ] || wrong "$((number + 1))" syntax
+done
 
 row 'program: names of 31 bytes'
 form 1 "program $name_31;\n" 5 "table $name_31 \"t.tsv\" (int, int);\n" 6 "begin $name_31;\n"
@@ -568,15 +806,6 @@ chain() {
     wants 0 "rounds $1\nend $2\n"
     shift 2
     wants_parts "$@"
-}
-
-# repeated NUMBER TEXT
-repeated() {
-    local number text=
-    for ((number = 0; number < $1; number++)); do
-        text+=$2
-    done
-    printf '%s' "$text"
 }
 
 # tables NUMBER: as many lines of tables of different names.
@@ -790,11 +1019,25 @@ table_rows() {
     faulty links '2: bad-number 1'
 }
 
-# refused_hops NAME NUMBER TEXT: another line in the program.
+# refused_hops NAME NUMBER TEXT: another line in the program, which is then of another form.
 refused_hops() {
     hops_row "$1"
     hops "$2" "$3"
     refused
+}
+
+# wrong_hops NAME LINE NUMBER TEXT: another line in the program, which has a fault of syntax in line LINE.
+wrong_hops() {
+    hops_row "$1"
+    hops "$3" "$4"
+    wrong "$2" syntax
+}
+
+# free_hops NAME NUMBER TEXT: the same line in another layout.
+free_hops() {
+    hops_row "$1"
+    hops "$2" "$3"
+    chain 3 fixpoint "${two_links[@]}"
 }
 
 program_rows() {
@@ -804,44 +1047,65 @@ program_rows() {
     done <<'END'
 parts 0|2|parts 0;
 parts 65|2|parts 65;
-parts 01|2|parts 01;
-parts +2|2|parts +2;
 parts above 32 bits|2|parts 4294967298;
-parts above 64 bits|2|parts 18446744073709551618;
 rounds 0|3|rounds 0;
 rounds 10001|3|rounds 10001;
-rounds 020|3|rounds 020;
 rounds above 32 bits|3|rounds 4294967316;
-rounds above 64 bits|3|rounds 18446744073709551636;
 a cache|4|stop exact;\ncache reducer_input;
-another stop|4|stop below 1;
+the caches of the whole program|4|stop exact;\ncache reducer_input;\ncache reducer_output;
 two tables of one name|6|table links "links.tsv" (int, int);\ntable start "links.tsv" (int, int);
 another table at the beginning|7|begin stars;
-a table behind the beginning|7|begin start;\ntable more "links.tsv" (int, int);
 another table in a step|8|step { state by same; table link by same; reduce hop; }
 a table in one round|8|step { state by same; table links round 1 by same; reduce hop; }
 another map in a step|8|step { state by same; table links by other; reduce hop; }
 another reduce in a step|8|step { state by same; table links by same; reduce most; }
-no blank between sources|8|step { state by same;table links by same; reduce hop; }
-two blanks between sources|8|step { state by same;  table links by same; reduce hop; }
 hop of one source|8|step { state by same; reduce hop; }
 hop of one source in the second step|9|step { prev by same; reduce hop; }
 hop of three sources|8|step { state by same; table links by same; table start by same; reduce hop; }
+a partition|9|step { prev by same; table start by same; reduce least; partition whole; }
+END
+
+    while IFS='|' read -r name number line; do
+        wrong_hops "$name" "$number" "$number" "$line\n"
+    done <<'END'
+parts 01|2|parts 01;
+parts +2|2|parts +2;
+parts above 64 bits|2|parts 18446744073709551618;
+rounds 020|3|rounds 020;
+rounds above 64 bits|3|rounds 18446744073709551636;
+another stop|4|stop below 1;
 the step before in the first step|8|step { prev by same; table links by same; reduce hop; }
 the state in the second step|9|step { state by same; table start by same; reduce least; }
 the state behind the step before|9|step { prev by same; state by same; reduce least; }
 a table in place of the state|8|step { table start by same; table links by same; reduce hop; }
-a partition|9|step { prev by same; table start by same; reduce least; partition whole; }
 END
 
-    refused_hops 'no LF at the end' 9 "${hops_lines[8]}"
-    refused_hops 'no step' 8 '' 9 ''
+    free_hops 'no blank between sources' 8 'step { state by same;table links by same; reduce hop; }\n'
+    free_hops 'two blanks between sources' 8 'step { state by same;  table links by same; reduce hop; }\n'
+    free_hops 'no LF at the end' 9 "${hops_lines[8]}"
+
+    hops_row 'all on one line'
+    local IFS=
+    put p.hal "${hops_lines[*]}"
+    unset IFS
+    chain 3 fixpoint "${two_links[@]}"
+
+    hops_row 'no beginning, behind two caches'
+    hops 4 'stop exact;\ncache reducer_input;\ncache reducer_output;\n' 7 ''
+    wrong 9 syntax
+
+    wrong_hops 'a table behind the beginning' 8 7 'begin start;\ntable more "links.tsv" (int, int);\n'
+
+    hops_row 'no step'
+    hops 8 '' 9 ''
+    wrong 8 syntax
+
     refused_hops '17 tables' 6 "${hops_lines[5]}\n$(tables 15)"
     refused_hops '9 sources' 9 "step { prev by same;$(repeated 8 ' table start by same;') reduce least; }\n"
     refused_hops '9 steps' 9 "$(repeated 8 'step { prev by same; reduce least; }\n')"
-    refused_hops '30,000 tables' 6 "${hops_lines[5]}\n$(tables 30000)"
+    refused_hops '20,000 tables' 6 "${hops_lines[5]}\n$(tables 20000)"
     refused_hops '30,000 sources' 9 "step { prev by same;$(repeated 30000 ' table start by same;') reduce least; }\n"
-    refused_hops '30,000 steps' 9 "$(repeated 30000 'step { prev by same; reduce least; }\n')"
+    refused_hops '20,000 steps' 9 "$(repeated 20000 'step { prev by same; reduce least; }\n')"
 }
 
 for by in run plain; do

@@ -21,7 +21,7 @@ pub use functions::Functions;
 pub use items::{CopyIn, Items};
 pub use line::{LineFault, read_line, write_line};
 pub use memory::Memory;
-pub use number::append_number;
+pub use number::{append_number, read_number};
 pub use part::default_part;
 pub use record::{Group, Groups, Parts, Record, Records, Tables, compare_rows, sort_rows};
 pub use shape::{Counts, Origin, Schemas, Shape, Source, Sources, Step, Steps};

@@ -7,7 +7,7 @@ use crate::memory::Memory;
 use itoa::Buffer;
 
 /// Adds these words, and the digits of a number.
-pub fn append_number(out: &mut Vec<u8>, words: &[u8], number: u32) -> Result<(), Memory>
+pub fn append_number(out: &mut Vec<u8>, words: &[u8], number: u64) -> Result<(), Memory>
     ensures { OnOk result (out.new.items ≡ out.old.items ++ (words.now ++ decimal number)) }
 {
     let mut digits = Buffer::new();
@@ -17,7 +17,7 @@ pub fn append_number(out: &mut Vec<u8>, words: &[u8], number: u32) -> Result<(),
 }
 
 /// The number that is spelled so: `0`, or an optional `-` and digits that do not begin with 0.
-pub(crate) fn read_number(piece: &[u8]) -> Option<i64>
+pub fn read_number(piece: &[u8]) -> Option<i64>
     ensures found { IfSome result (λ n. piece.now ≡ signed_decimal n) }
     ensures only { IfNone result ((n : ℤ) → FitsSigned w64 n → piece.now ≡ signed_decimal n → ⊥) }
 {

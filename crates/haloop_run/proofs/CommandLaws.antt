@@ -12,7 +12,7 @@ use Rattle.plain_job.specs.Plain.{FewSteps, IsPlainChain, ending_of}
 use Rattle.program_form.specs.declared.form.Form.{Form}
 use Rattle.program_form.specs.declared.form.StepForm.{StepForm}
 use Rattle.program_form.specs.declared.form.TableForm.{TableForm}
-use Rattle.program_form.specs.Forms.{IsForm}
+use Rattle.program_form.specs.Forms.{KeepsRules}
 use Rattle.program_form.specs.Shapes.{meaning_of, shape_of, steps_of}
 use Rattle.program_form.proofs.ShapeLaws.{form_has_few_steps}
 use Rattle.haloop_run.specs.declared.refusal.Refusal.{Refusal}
@@ -63,6 +63,7 @@ module _ (asked : Asked) (form : Form) (tables : List (List Record)) (chain : Pl
   pub writing_refused : (before mid after : Option FileMap) (faults faults' absents : Type 0) → mid ≡ before → IfSome before (λ files. Judged (ComesTo files asked) (accepted form tables)) → OnTold (WrittenPart asked.out chain.parts) mid after → (faults → faults') → (r : Refusal) → WriteRefused r faults → CommandRefused asked before after faults' absents r
   writing_refused before mid after f f' a m j w ff refusal.Usage r = r
   writing_refused before mid after f f' a m j w ff (refusal.Absent name) r = absurd r
+  writing_refused before mid after f f' a m j w ff (refusal.BadProgram line what) r = absurd r
   writing_refused before mid after f f' a m j w ff refusal.NotBuilt r = absurd r
   writing_refused before mid after f f' a m j w ff (refusal.BadTable name what) r = absurd r
   writing_refused before mid after f f' a m j w ff refusal.Device r = (ff r, inr (some_parts before mid after m j w))
@@ -72,6 +73,7 @@ module _ (asked : Asked) (form : Form) (tables : List (List Record)) (chain : Pl
 pub input_refused : (asked : Asked) (before after : Option FileMap) (faults absents : Type 0) → after ≡ before → (r : Refusal) → Refused r (λ it. IfSome before (λ files. Judged (ComesTo files asked) it)) faults absents → CommandRefused asked before after faults absents r
 input_refused asked before after f a k refusal.Usage r = r
 input_refused asked before after f a k (refusal.Absent name) r = (r.0, k, r.1)
+input_refused asked before after f a k (refusal.BadProgram line what) r = (k, r)
 input_refused asked before after f a k refusal.NotBuilt r = (k, r)
 input_refused asked before after f a k (refusal.BadTable name what) r = (k, r)
 input_refused asked before after f a k refusal.Device r = (r, inl k)
@@ -81,6 +83,6 @@ steps_there : (tables : List TableForm) (steps : List StepForm) → 1 ≤ length
 steps_there tables [] l = l
 steps_there tables (first ∷ others) l = omega arith
 
-pub has_steps : (form : Form) (shape : Shape) (text : List ℕ) → IsForm text form → shape ≡ shape_of form → (1 ≤ length shape.steps) × FewSteps shape.steps
-has_steps form shape text g e =
-    subst (λ (s : Shape). (1 ≤ length s.steps) × FewSteps s.steps) (sym e) (steps_there form.tables form.steps g.few_steps.0, form_has_few_steps text form g)
+pub has_steps : (form : Form) (shape : Shape) → KeepsRules form → shape ≡ shape_of form → (1 ≤ length shape.steps) × FewSteps shape.steps
+has_steps form shape g e =
+    subst (λ (s : Shape). (1 ≤ length s.steps) × FewSteps s.steps) (sym e) (steps_there form.tables form.steps g.limits.few_steps.0, form_has_few_steps form g)

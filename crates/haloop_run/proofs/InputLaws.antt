@@ -1,5 +1,6 @@
 -- What the files come to, stage by stage.
 use Rattle.std.proofs.Common.{◌≡◌, ◌≢◌, ℕ, List, [], ◌∷◌, ◌++◌, Option, None, Some, Ok, Err, refl, sym, ap, subst, ◌∙◌, inl, inr, ◌+◌, ◌<◌, length, drop, get_or}
+use Rattle.std.specs.FinMap as map
 use Rattle.std.specs.Option.{IfSome}
 use Rattle.std.proofs.lemmas.List.{drop_more}
 use Rattle.hal_base.specs.declared.record.Record.{Record}
@@ -11,14 +12,18 @@ use Rattle.hal_base.proofs.ReadingLaws.{only_table}
 use Rattle.hal_outside.specs.Told.{FileMap}
 use Rattle.program_form.specs.declared.form.Form.{Form}
 use Rattle.program_form.specs.declared.form.TableForm.{TableForm}
-use Rattle.program_form.specs.Forms.{IsForm}
+use Rattle.loop_program.specs.declared.fault.What.{What}
+use Rattle.loop_program.specs.declared.fault.ProgramFault.TheVariants.{At as WrongAt}
+use Rattle.loop_program.specs.declared.sketch.Sketch.{Sketch}
+use Rattle.loop_program.specs.Programs.{IsJustProgram, IsProgramText, IsRefusedBy}
+use Rattle.program_form.specs.Forms.{IsFormOf}
 use Rattle.program_form.specs.Shapes.{pairs}
 use Rattle.haloop_run.specs.declared.refusal.Refusal.{Refusal}
 use Rattle.haloop_run.specs.declared.refusal.Refusal.TheVariants as refusal
 use Rattle.haloop_run.specs.Words.{Asked}
-use Rattle.haloop_run.specs.Inputs.{Outcome, accepted, absent, not_built, bad_table, TableComesTo, TablesComeTo, ScheduleComesTo, AskedScheduleComesTo, ProgramComesTo, ComesTo, schedule_text}
+use Rattle.haloop_run.specs.Inputs.{Outcome, accepted, absent, bad_program, not_built, bad_table, TableComesTo, TablesComeTo, ScheduleComesTo, AskedScheduleComesTo, ProgramComesTo, SketchComesTo, ComesTo, schedule_text}
 use Rattle.haloop_run.specs.Statuses.{status_of}
-use Rattle.haloop_run.specs.Steps.{Judged, HasForm, NoForm, HasSchedule, NoSchedule, HasRows, NoRows, Refused}
+use Rattle.haloop_run.specs.Steps.{Judged, HasForm, NoForm, HasSchedule, NoSchedule, HasRows, NoRows, Refused, TextRefused}
 
 same_status : (a b c : Outcome) → a ≡ c → b ≡ c → status_of a ≡ status_of b
 same_status a b c e f = ap status_of e ∙ sym (ap status_of f)
@@ -100,6 +105,9 @@ module _ (files : FileMap) (R : Outcome → Type 0) where
 
 -- ---- program
 
+some_same : {A : Type 0} {a b : A} → Some a ≡ Some b → a ≡ b
+some_same e = cc
+
 module _ (files : FileMap) (asked : Asked) where
   abbrev AfterForm : Outcome → Form → Type 0
   AfterForm it form = AskedScheduleComesTo (TablesComeTo files form form.tables [] it) files asked.schedule it
@@ -107,29 +115,51 @@ module _ (files : FileMap) (asked : Asked) where
   abbrev ProgramAt : Option (List ℕ) → Outcome → Type 0
   ProgramAt there it = ProgramComesTo (AfterForm it) asked.program there it
 
-  only_none : (text : List ℕ) (other : Outcome) → ((form : Form) → IsForm text form → ⊥) → ProgramAt (Some text) other → status_of other ≡ 12
-  only_none text other n (inl c) = absurd (n c.0 c.1)
-  only_none text other n (inr c) = ap status_of c.1
+  only_wrong : (text : List ℕ) (line : ℕ) (what : What) (other : Outcome) → ((sketch : Sketch) → IsProgramText text sketch → ⊥) → ProgramAt (Some text) other → status_of other ≡ 2
+  only_wrong text line what other n (inl c) = absurd (n c.0 c.1)
+  only_wrong text line what other n (inr c) = ap status_of c.3
+
+  abbrev AfterSketch : Outcome → Sketch → Type 0
+  AfterSketch it sketch = SketchComesTo (AfterForm it) sketch it
+
+  -- what the program's text comes to is what its one program comes to
+  only_sketch : (text : List ℕ) (sketch : Sketch) (it other : Outcome) → IsJustProgram text sketch → Judged (λ o. AfterSketch o sketch) it → ProgramAt (Some text) other → status_of other ≡ status_of it
+  only_sketch text sketch it other p j (inl c) = j.only other (subst (λ (s : Sketch). AfterSketch other s) (p.only c.0 c.1) c.2)
+  only_sketch text sketch it other p j (inr c) = absurd (p.right c.0 c.1 c.2)
+
+  right_sketch : (text : List ℕ) (sketch : Sketch) (it : Outcome) → map.get files asked.program ≡ Some text → IsJustProgram text sketch → Judged (λ o. AfterSketch o sketch) it → Judged (ComesTo files asked) it
+  right_sketch text sketch it there p j = record {
+    comes = subst (λ (o : Option (List ℕ)). ProgramAt o it) (sym there) (inl (sketch, p.is, j.comes));
+    only = λ other c. only_sketch text sketch it other p j (subst (λ (o : Option (List ℕ)). ProgramAt o other) there c);
+  }
+
+  only_unbuilt : (sketch : Sketch) (other : Outcome) → ((form : Form) → IsFormOf sketch form → ⊥) → AfterSketch other sketch → status_of other ≡ 12
+  only_unbuilt sketch other n (inl c) = absurd (n c.0 c.1)
+  only_unbuilt sketch other n (inr c) = ap status_of c.1
+
+  unbuilt : (sketch : Sketch) → ((form : Form) → IsFormOf sketch form → ⊥) → Judged (λ o. AfterSketch o sketch) not_built
+  unbuilt sketch n = record { comes = inr (n, refl); only = λ other c. only_unbuilt sketch other n c }
 
   pub no_form : (it : Outcome) → NoForm files asked.program it → Judged (ComesTo files asked) it
   no_form it (inl a) = record {
     comes = subst (λ (o : Option (List ℕ)). ProgramAt o it) (sym a.0) a.1;
     only = λ other c. same_status other it (absent asked.program) (subst (λ (o : Option (List ℕ)). ProgramAt o other) a.0 c) a.1;
   }
-  no_form it (inr a) = record {
-    comes = subst (λ (o : Option (List ℕ)). ProgramAt o it) (sym a.1) (inr (a.2, a.3));
-    only = λ other c. only_none a.0 other a.2 (subst (λ (o : Option (List ℕ)). ProgramAt o other) a.1 c) ∙ sym (ap status_of a.3);
+  no_form it (inr (inl a)) = record {
+    comes = subst (λ (o : Option (List ℕ)). ProgramAt o it) (sym a.1) (inr (a.2, a.3, a.4.0, a.5));
+    only = λ other c. only_wrong a.0 a.2 a.3 other a.4.1 (subst (λ (o : Option (List ℕ)). ProgramAt o other) a.1 c) ∙ sym (ap status_of a.5);
   }
+  no_form it (inr (inr a)) = subst (λ (o : Outcome). Judged (ComesTo files asked) o) (sym a.1) (right_sketch a.0.text a.0.sketch not_built a.0.there a.0.program (unbuilt a.0.sketch a.0.none))
 
-  only_form : (form : Form) (it other : Outcome) (h : HasForm files asked.program form) → Judged (λ o. AfterForm o form) it → ProgramAt (Some h.text) other → status_of other ≡ status_of it
-  only_form form it other h j (inl c) = j.only other (subst (λ (f : Form). AfterForm other f) (h.only c.0 c.1) c.2)
-  only_form form it other h j (inr c) = absurd (c.0 form h.is_form)
+  only_form : (sketch : Sketch) (form : Form) (it other : Outcome) → IsFormOf sketch form → Judged (λ o. AfterForm o form) it → AfterSketch other sketch → status_of other ≡ status_of it
+  only_form sketch form it other is j (inl c) = j.only other (subst (λ (f : Form). AfterForm other f) (some_same (sym c.1.read ∙ is.read)) c.2)
+  only_form sketch form it other is j (inr c) = absurd (c.0 form is)
 
   right_form : (form : Form) (it : Outcome) → HasForm files asked.program form → Judged (λ o. AfterForm o form) it → Judged (ComesTo files asked) it
-  right_form form it h j = record {
-    comes = subst (λ (o : Option (List ℕ)). ProgramAt o it) (sym h.there) (inl (form, h.is_form, j.comes));
-    only = λ other c. only_form form it other h j (subst (λ (o : Option (List ℕ)). ProgramAt o other) h.there c);
-  }
+  right_form form it h j = right_sketch h.text h.sketch it h.there h.program (record {
+    comes = inl (form, h.is_form, j.comes);
+    only = λ other c. only_form h.sketch form it other h.is_form j c;
+  })
 
   abbrev TablesOf : Form → Outcome → Type 0
   TablesOf form it = TablesComeTo files form form.tables [] it
@@ -146,10 +176,33 @@ module _ (files : FileMap) (asked : Asked) where
 pub refused_more : (P Q : Outcome → Type 0) (faults faults' absents absents' : Type 0) → (faults → faults') → (absents → absents') → ((it : Outcome) → P it → Q it) → (r : Refusal) → Refused r P faults absents → Refused r Q faults' absents'
 refused_more P Q f f' a a' ff aa pq refusal.Usage r = r
 refused_more P Q f f' a a' ff aa pq (refusal.Absent name) r = (aa r.0, pq (absent name) r.1)
+refused_more P Q f f' a a' ff aa pq (refusal.BadProgram line what) r = pq (bad_program line what) r
 refused_more P Q f f' a a' ff aa pq refusal.NotBuilt r = pq not_built r
 refused_more P Q f f' a a' ff aa pq (refusal.BadTable name what) r = pq (bad_table name what) r
 refused_more P Q f f' a a' ff aa pq refusal.Device r = ff r
 refused_more P Q f f' a a' ff aa pq refusal.Memory r = tt
+
+pub has_form : (told : Option FileMap) (name text : List ℕ) (form : Form) → IfSome told (λ files. map.get files name ≡ Some text) → (sketch : Sketch) × IsJustProgram text sketch × IsFormOf sketch form → IfSome told (λ files. HasForm files name form)
+has_form None name text form there h = tt
+has_form (Some files) name text form there h = record { text = text; there = there; sketch = h.0; program = h.1; is_form = h.2 }
+
+wrong_there : (told : Option FileMap) (name text : List ℕ) (line : ℕ) (what : What) → IfSome told (λ files. map.get files name ≡ Some text) → IsRefusedBy text (WrongAt line what) → IfSome told (λ files. NoForm files name (bad_program line what))
+wrong_there None name text line what there r = tt
+wrong_there (Some files) name text line what there r = inr (inl (text, there, line, what, r, refl))
+
+unbuilt_there : (told : Option FileMap) (name text : List ℕ) → IfSome told (λ files. map.get files name ≡ Some text) → (sketch : Sketch) × IsJustProgram text sketch × ((form : Form) → IsFormOf sketch form → ⊥) → IfSome told (λ files. NoForm files name not_built)
+unbuilt_there None name text there h = tt
+unbuilt_there (Some files) name text there h = inr (inr (record { text = text; there = there; sketch = h.0; program = h.1; none = h.2 }, refl))
+
+-- what is refused where a text is read is refused where its file is
+pub text_refused : (told : Option FileMap) (name text : List ℕ) (faults absents : Type 0) → IfSome told (λ files. map.get files name ≡ Some text) → (r : Refusal) → TextRefused r text → Refused r (λ it. IfSome told (λ files. NoForm files name it)) faults absents
+text_refused told name text faults absents there refusal.Usage r = absurd r
+text_refused told name text faults absents there (refusal.Absent file) r = absurd r
+text_refused told name text faults absents there (refusal.BadProgram line what) r = wrong_there told name text line what there r
+text_refused told name text faults absents there refusal.NotBuilt r = unbuilt_there told name text there r
+text_refused told name text faults absents there (refusal.BadTable table what) r = absurd r
+text_refused told name text faults absents there refusal.Device r = absurd r
+text_refused told name text faults absents there refusal.Memory r = tt
 
 pub told_no_form : (asked : Asked) (told : Option FileMap) (it : Outcome) → IfSome told (λ files. NoForm files asked.program it) → IfSome told (λ files. Judged (ComesTo files asked) it)
 told_no_form asked None it n = tt

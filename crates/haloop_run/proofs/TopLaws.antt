@@ -4,13 +4,14 @@ use Rattle.std.specs.Option.{IfSome}
 use Rattle.std.proofs.Math.Seq.{take-length}
 use Rattle.hal_base.specs.declared.table.TableFault.{TableFault}
 use Rattle.hal_outside.specs.Told.{FileMap, AfterFailedAppend}
+use Rattle.loop_program.specs.declared.fault.What.{What}
 use Rattle.plain_job.specs.Plain.{ending_of}
 use Rattle.haloop_run.specs.declared.refusal.Refusal.{Refusal}
 use Rattle.haloop_run.specs.declared.refusal.Refusal.TheVariants as refusal
 use Rattle.haloop_run.specs.declared.run.Ended.{Ended}
 use Rattle.haloop_run.specs.Words.{Asked, AskFor, words_of}
-use Rattle.haloop_run.specs.Inputs.{Outcome, absent, not_built, bad_table, ComesTo}
-use Rattle.haloop_run.specs.Outputs.{Gained, Leaves, LeavesPart, LeavesSome, OnTold, AreFirstOf, report, usage_line, absent_line, not_built_line, table_line, device_line, memory_line}
+use Rattle.haloop_run.specs.Inputs.{Outcome, absent, bad_program, not_built, bad_table, ComesTo}
+use Rattle.haloop_run.specs.Outputs.{Gained, Leaves, LeavesPart, LeavesSome, OnTold, AreFirstOf, report, usage_line, absent_line, program_line, not_built_line, table_line, device_line, memory_line}
 use Rattle.haloop_run.specs.Statuses.{Answers, IsDue, GainedDue, InputIs, status_of}
 use Rattle.haloop_run.specs.Steps.{Judged, Said, SaidPart, Came, Answered}
 
@@ -71,6 +72,7 @@ pub left : (words : List (List ℕ)) (before after : Option FileMap) (faults abs
 left words before after f a (Ok ended) c = inr (c.0, c.1, all_written c.0 ended.rounds (ending_of ended.end) before after c.2.leaves)
 left words before after f a (Err refusal.Usage) c = inl c.1
 left words before after f a (Err (refusal.Absent name)) c = inl c.2.1
+left words before after f a (Err (refusal.BadProgram number what)) c = inl c.2.0
 left words before after f a (Err refusal.NotBuilt) c = inl c.2.0
 left words before after f a (Err (refusal.BadTable name what)) c = inl c.2.0
 left words before after f a (Err refusal.Device) c = some_left words before after c.0 c.1 c.2.1
@@ -111,6 +113,7 @@ module _ (held holds : Option (List ℕ)) (faults : Type 0) (result : ℕ) where
     comes (Ok ended) c s asked it g i = as_status 0 (status_of it) (report ended.rounds (ending_of ended.end)) (c.2.only it (at_asked asked c.0 it g c.1 i)) s
     comes (Err refusal.Usage) c s asked it g i = absurd (c.0 asked g)
     comes (Err (refusal.Absent name)) c s asked it g i = as_status 11 (status_of it) (absent_line name) (c.2.2.only it (at_asked asked c.0 it g c.1 i)) s
+    comes (Err (refusal.BadProgram number what)) c s asked it g i = as_status 2 (status_of it) (program_line number what) (c.2.1.only it (at_asked asked c.0 it g c.1 i)) s
     comes (Err refusal.NotBuilt) c s asked it g i = as_status 12 (status_of it) not_built_line (c.2.1.only it (at_asked asked c.0 it g c.1 i)) s
     comes (Err (refusal.BadTable name what)) c s asked it g i = as_status 3 (status_of it) (table_line name what) (c.2.1.only it (at_asked asked c.0 it g c.1 i)) s
     comes (Err refusal.Device) c s asked it g i = failed (status_of it) 8 device_line s (inl refl)
@@ -119,7 +122,7 @@ module _ (held holds : Option (List ℕ)) (faults : Type 0) (result : ℕ) where
 -- a part of a line that is due
 due_part : (words : List (List ℕ)) (before after : Option FileMap) (faults : Type 0) (line : List ℕ) (held holds : Option (List ℕ)) → IsDue words before after faults line → SaidPart line held holds → GainedDue words before after faults held holds
 due_part words before after faults line held holds d (inl p) = (line, d, p)
-due_part words before after faults line held holds d (inr p) = (memory_line, inr (inr (inr (inr (inr (inr refl))))), p)
+due_part words before after faults line held holds d (inr p) = (memory_line, inr (inr (inr (inr (inr (inr (inr refl)))))), p)
 
 -- what was said, if it was not said whole with its status
 failed_part : (n : ℕ) (line : List ℕ) (held holds : Option (List ℕ)) (faults : Type 0) (result : ℕ) → Said n line held holds faults result → SaidPart line held holds
@@ -148,10 +151,11 @@ module _ (words : List (List ℕ)) (before after : Option FileMap) (faults absen
   said_due (Ok ended) c s = due 0 (report ended.rounds (ending_of ended.end)) (inl (c.0, c.1, ended.rounds, ending_of ended.end, refl, c.2.leaves)) s
   said_due (Err refusal.Usage) c s = due 1 usage_line (inr (inl (refl, c.0))) s
   said_due (Err (refusal.Absent name)) c s = due 11 (absent_line name) (inr (inr (inl (name, refl, input_is words before c.0 (absent name) c.1 c.2.2)))) s
-  said_due (Err refusal.NotBuilt) c s = due 12 not_built_line (inr (inr (inr (inl (refl, input_is words before c.0 not_built c.1 c.2.1))))) s
-  said_due (Err (refusal.BadTable name what)) c s = due 3 (table_line name what) (inr (inr (inr (inr (inl (name, what, refl, input_is words before c.0 (bad_table name what) c.1 c.2.1)))))) s
-  said_due (Err refusal.Device) c s = due 8 device_line (inr (inr (inr (inr (inr (inl (refl, c.2.0))))))) s
-  said_due (Err refusal.Memory) c s = due 10 memory_line (inr (inr (inr (inr (inr (inr refl)))))) s
+  said_due (Err (refusal.BadProgram number what)) c s = due 2 (program_line number what) (inr (inr (inr (inl (number, what, refl, input_is words before c.0 (bad_program number what) c.1 c.2.1))))) s
+  said_due (Err refusal.NotBuilt) c s = due 12 not_built_line (inr (inr (inr (inr (inl (refl, input_is words before c.0 not_built c.1 c.2.1)))))) s
+  said_due (Err (refusal.BadTable name what)) c s = due 3 (table_line name what) (inr (inr (inr (inr (inr (inl (name, what, refl, input_is words before c.0 (bad_table name what) c.1 c.2.1))))))) s
+  said_due (Err refusal.Device) c s = due 8 device_line (inr (inr (inr (inr (inr (inr (inl (refl, c.2.0)))))))) s
+  said_due (Err refusal.Memory) c s = due 10 memory_line (inr (inr (inr (inr (inr (inr (inr refl))))))) s
 
   by_sink : (n : ℕ) (line : List ℕ) → Said n line held holds sink_faults result → result ≡ 8 → n ≢ 8 → Part → (faults × Gained held device_line holds) ⊎ (sink_faults × Part)
   by_sink n line s e d p = inr (sink_failed n line held holds sink_faults result s e d, p)
@@ -161,6 +165,7 @@ module _ (words : List (List ℕ)) (before after : Option FileMap) (faults absen
   said_device (Ok ended) c s e = by_sink 0 (report ended.rounds (ending_of ended.end)) s e (omega arith) (said_due (Ok ended) c s)
   said_device (Err refusal.Usage) c s e = by_sink 1 usage_line s e (omega arith) (said_due (Err refusal.Usage) c s)
   said_device (Err (refusal.Absent name)) c s e = by_sink 11 (absent_line name) s e (omega arith) (said_due (Err (refusal.Absent name)) c s)
+  said_device (Err (refusal.BadProgram number what)) c s e = by_sink 2 (program_line number what) s e (omega arith) (said_due (Err (refusal.BadProgram number what)) c s)
   said_device (Err refusal.NotBuilt) c s e = by_sink 12 not_built_line s e (omega arith) (said_due (Err refusal.NotBuilt) c s)
   said_device (Err (refusal.BadTable name what)) c s e = by_sink 3 (table_line name what) s e (omega arith) (said_due (Err (refusal.BadTable name what)) c s)
   said_device (Err refusal.Device) c (inl s) e = inl (c.2.0, s.1)
@@ -189,15 +194,27 @@ module _ (words : List (List ℕ)) (before after : Option FileMap) (faults absen
   said_absent (Ok ended) c s e = absurd (other_status 0 11 (report ended.rounds (ending_of ended.end)) s e (omega arith) (omega arith) (omega arith))
   said_absent (Err refusal.Usage) c s e = absurd (other_status 1 11 usage_line s e (omega arith) (omega arith) (omega arith))
   said_absent (Err (refusal.Absent name)) c s e = (name, input_is words before c.0 (absent name) c.1 c.2.2, (said_whole 11 11 (absent_line name) s e (omega arith) (omega arith)).1)
+  said_absent (Err (refusal.BadProgram number what)) c s e = absurd (other_status 2 11 (program_line number what) s e (omega arith) (omega arith) (omega arith))
   said_absent (Err refusal.NotBuilt) c s e = absurd (other_status 12 11 not_built_line s e (omega arith) (omega arith) (omega arith))
   said_absent (Err (refusal.BadTable name what)) c s e = absurd (other_status 3 11 (table_line name what) s e (omega arith) (omega arith) (omega arith))
   said_absent (Err refusal.Device) c s e = absurd (other_status 8 11 device_line s e (omega arith) (omega arith) (omega arith))
   said_absent (Err refusal.Memory) c s e = absurd (other_status 10 11 memory_line s e (omega arith) (omega arith) (omega arith))
 
+  pub said_bad_program : (done : Result Ended Refusal) → Came words before after faults absents done → Answered done held holds sink_faults result → result ≡ 2 → (number : ℕ) × (what : What) × InputIs words before (bad_program number what) × Gained held (program_line number what) holds
+  said_bad_program (Ok ended) c s e = absurd (other_status 0 2 (report ended.rounds (ending_of ended.end)) s e (omega arith) (omega arith) (omega arith))
+  said_bad_program (Err refusal.Usage) c s e = absurd (other_status 1 2 usage_line s e (omega arith) (omega arith) (omega arith))
+  said_bad_program (Err (refusal.Absent name)) c s e = absurd (other_status 11 2 (absent_line name) s e (omega arith) (omega arith) (omega arith))
+  said_bad_program (Err (refusal.BadProgram number what)) c s e = (number, what, input_is words before c.0 (bad_program number what) c.1 c.2.1, (said_whole 2 2 (program_line number what) s e (omega arith) (omega arith)).1)
+  said_bad_program (Err refusal.NotBuilt) c s e = absurd (other_status 12 2 not_built_line s e (omega arith) (omega arith) (omega arith))
+  said_bad_program (Err (refusal.BadTable name what)) c s e = absurd (other_status 3 2 (table_line name what) s e (omega arith) (omega arith) (omega arith))
+  said_bad_program (Err refusal.Device) c s e = absurd (other_status 8 2 device_line s e (omega arith) (omega arith) (omega arith))
+  said_bad_program (Err refusal.Memory) c s e = absurd (other_status 10 2 memory_line s e (omega arith) (omega arith) (omega arith))
+
   pub said_not_built : (done : Result Ended Refusal) → Came words before after faults absents done → Answered done held holds sink_faults result → result ≡ 12 → InputIs words before not_built × Gained held not_built_line holds
   said_not_built (Ok ended) c s e = absurd (other_status 0 12 (report ended.rounds (ending_of ended.end)) s e (omega arith) (omega arith) (omega arith))
   said_not_built (Err refusal.Usage) c s e = absurd (other_status 1 12 usage_line s e (omega arith) (omega arith) (omega arith))
   said_not_built (Err (refusal.Absent name)) c s e = absurd (other_status 11 12 (absent_line name) s e (omega arith) (omega arith) (omega arith))
+  said_not_built (Err (refusal.BadProgram number what)) c s e = absurd (other_status 2 12 (program_line number what) s e (omega arith) (omega arith) (omega arith))
   said_not_built (Err refusal.NotBuilt) c s e = (input_is words before c.0 not_built c.1 c.2.1, (said_whole 12 12 not_built_line s e (omega arith) (omega arith)).1)
   said_not_built (Err (refusal.BadTable name what)) c s e = absurd (other_status 3 12 (table_line name what) s e (omega arith) (omega arith) (omega arith))
   said_not_built (Err refusal.Device) c s e = absurd (other_status 8 12 device_line s e (omega arith) (omega arith) (omega arith))
@@ -207,6 +224,7 @@ module _ (words : List (List ℕ)) (before after : Option FileMap) (faults absen
   said_bad_table (Ok ended) c s e = absurd (other_status 0 3 (report ended.rounds (ending_of ended.end)) s e (omega arith) (omega arith) (omega arith))
   said_bad_table (Err refusal.Usage) c s e = absurd (other_status 1 3 usage_line s e (omega arith) (omega arith) (omega arith))
   said_bad_table (Err (refusal.Absent name)) c s e = absurd (other_status 11 3 (absent_line name) s e (omega arith) (omega arith) (omega arith))
+  said_bad_table (Err (refusal.BadProgram number what)) c s e = absurd (other_status 2 3 (program_line number what) s e (omega arith) (omega arith) (omega arith))
   said_bad_table (Err refusal.NotBuilt) c s e = absurd (other_status 12 3 not_built_line s e (omega arith) (omega arith) (omega arith))
   said_bad_table (Err (refusal.BadTable name what)) c s e = (name, what, input_is words before c.0 (bad_table name what) c.1 c.2.1, (said_whole 3 3 (table_line name what) s e (omega arith) (omega arith)).1)
   said_bad_table (Err refusal.Device) c s e = absurd (other_status 8 3 device_line s e (omega arith) (omega arith) (omega arith))

@@ -9,7 +9,10 @@ use Rattle.hal_base.specs.TableFaults.{HasTableFault}
 use Rattle.hal_outside.specs.Told.{FileMap}
 use Rattle.program_form.specs.declared.form.Form.{Form}
 use Rattle.program_form.specs.declared.form.TableForm.{TableForm}
-use Rattle.program_form.specs.Forms.{IsForm}
+use Rattle.loop_program.specs.declared.fault.What.{What}
+use Rattle.loop_program.specs.declared.sketch.Sketch.{Sketch}
+use Rattle.loop_program.specs.Programs.{HasWrong, IsProgramText}
+use Rattle.program_form.specs.Forms.{IsFormOf}
 use Rattle.program_form.specs.Shapes.{pairs}
 use Rattle.haloop_run.specs.Words.{Asked}
 
@@ -17,10 +20,11 @@ use Rattle.haloop_run.specs.Words.{Asked}
 abbrev pub schedule_text : List ℕ
 schedule_text = codes "nodes 1\n"
 
--- what the input comes to: it is accepted, or this file is absent, or program or schedule are of a form that is not built, or this table has a fault
+-- what the input comes to: it is accepted, or this file is absent, or this is wrong with the program in this line, or program or schedule are of a form that is not built, or this table has a fault
 pub data Outcome : Type 0 where
   accepted : Form → List (List Record) → Outcome
   absent : List ℕ → Outcome
+  bad_program : ℕ → What → Outcome
   not_built : Outcome
   bad_table : List ℕ → TableFault → Outcome
 
@@ -47,12 +51,18 @@ abbrev pub AskedScheduleComesTo : Type 0 → FileMap → Option (List ℕ) → O
 AskedScheduleComesTo rest files None it = rest
 AskedScheduleComesTo rest files (Some name) it = ScheduleComesTo rest name (map.get files name) it
 
--- the program's file, if it is there, is of the form, and then it is as the rest says
+-- a program is of the form, and then it is as the rest says
+abbrev pub SketchComesTo : (Form → Type 0) → Sketch → Outcome → Type 0
+SketchComesTo rest sketch it =
+    ((form : Form) × IsFormOf sketch form × rest form)
+    ⊎ (((form : Form) → IsFormOf sketch form → ⊥) × (it ≡ not_built))
+
+-- the program's file, if it is there, has the text of a program, and then it is as that comes to, or this is wrong with it
 abbrev pub ProgramComesTo : (Form → Type 0) → List ℕ → Option (List ℕ) → Outcome → Type 0
 ProgramComesTo rest name None it = it ≡ absent name
 ProgramComesTo rest name (Some text) it =
-    ((form : Form) × IsForm text form × rest form)
-    ⊎ (((form : Form) → IsForm text form → ⊥) × (it ≡ not_built))
+    ((sketch : Sketch) × IsProgramText text sketch × SketchComesTo rest sketch it)
+    ⊎ ((line : ℕ) × (what : What) × HasWrong text line what × (it ≡ bad_program line what))
 
 -- what the input comes to
 abbrev pub ComesTo : FileMap → Asked → Outcome → Type 0

@@ -10,6 +10,8 @@ use Rattle.hal_base.specs.declared.table.TableFault.{TableFault}
 use Rattle.hal_base.specs.declared.table.TableFault.TheVariants.{Line, TooMany}
 use Rattle.hal_base.specs.declared.table.TableFault.TheVariants as table
 use Rattle.hal_outside.specs.Told.{FileMap}
+use Rattle.loop_program.specs.declared.fault.What.{What}
+use Rattle.loop_program.specs.declared.fault.What.TheVariants.{Syntax, Limit}
 use Rattle.plain_job.specs.Ends.{IsChain, Ending, ending_text}
 use Rattle.program_form.specs.declared.form.Form.{Form}
 use Rattle.program_form.specs.Shapes.{meaning_of, shape_of}
@@ -78,6 +80,14 @@ usage_line = codes "error: usage: haloop run PROGRAM SCHEDULE OUT [journal=FILE]
 
 abbrev pub absent_line : List ℕ → List ℕ
 absent_line name = codes "error: file " ++ name ++ codes " absent\n"
+
+-- the word of what is wrong with a program
+abbrev pub what_text : What → List ℕ
+what_text Syntax = codes "syntax"
+what_text Limit = codes "limit"
+
+abbrev pub program_line : ℕ → What → List ℕ
+program_line line what = codes "error: program line " ++ decimal line ++ codes ": " ++ what_text what ++ codes "\n"
 
 abbrev pub not_built_line : List ℕ
 not_built_line = codes "error: form not built\n"

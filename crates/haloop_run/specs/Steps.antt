@@ -10,14 +10,18 @@ use Rattle.hal_outside.specs.Told.{FileMap, AfterFailedAppend}
 use Rattle.plain_job.specs.Plain.{ending_of}
 use Rattle.program_form.specs.declared.form.Form.{Form}
 use Rattle.program_form.specs.declared.form.TableForm.{TableForm}
-use Rattle.program_form.specs.Forms.{IsForm}
+use Rattle.loop_program.specs.declared.fault.What.{What}
+use Rattle.loop_program.specs.declared.fault.ProgramFault.TheVariants.{At}
+use Rattle.loop_program.specs.declared.sketch.Sketch.{Sketch}
+use Rattle.loop_program.specs.Programs.{IsJustProgram, IsRefusedBy}
+use Rattle.program_form.specs.Forms.{IsFormOf}
 use Rattle.program_form.specs.Shapes.{pairs}
 use Rattle.haloop_run.specs.declared.refusal.Refusal.{Refusal}
 use Rattle.haloop_run.specs.declared.refusal.Refusal.TheVariants as refusal
 use Rattle.haloop_run.specs.declared.run.Ended.{Ended}
 use Rattle.haloop_run.specs.Words.{Asked, AskFor, IsUsage}
-use Rattle.haloop_run.specs.Inputs.{Outcome, absent, not_built, bad_table, ComesTo, schedule_text}
-use Rattle.haloop_run.specs.Outputs.{Leaves, LeavesSome, OnTold, AreFirstOf, part_name, with_parts, Gained, report, usage_line, absent_line, not_built_line, table_line, device_line, memory_line}
+use Rattle.haloop_run.specs.Inputs.{Outcome, absent, bad_program, not_built, bad_table, ComesTo, schedule_text}
+use Rattle.haloop_run.specs.Outputs.{Leaves, LeavesSome, OnTold, AreFirstOf, part_name, with_parts, Gained, report, usage_line, absent_line, program_line, not_built_line, table_line, device_line, memory_line}
 use Rattle.haloop_run.specs.Statuses.{status_of}
 
 -- a stage comes to this, and to nothing with another status
@@ -25,18 +29,38 @@ pub record Judged (Stage : Outcome → Type 0) (it : Outcome) : Type 0 where
   pub comes : Stage it
   pub only : (other : Outcome) → Stage other → status_of other ≡ status_of it
 
--- the file of this name has the text of the program, and of no other
+-- the file of this name has the text of a program, which is of this form
 pub record HasForm (files : FileMap) (name : List ℕ) (form : Form) : Type 0 where
   pub text : List ℕ
   pub there : map.get files name ≡ Some text
-  pub is_form : IsForm text form
-  pub only : (other : Form) → IsForm text other → other ≡ form
+  pub sketch : Sketch
+  pub program : IsJustProgram text sketch
+  pub is_form : IsFormOf sketch form
 
--- the file of this name is not there, or has the text of no program
+-- the file of this name has the text of a program, which is of no form that is built
+pub record HasOtherForm (files : FileMap) (name : List ℕ) : Type 0 where
+  pub text : List ℕ
+  pub there : map.get files name ≡ Some text
+  pub sketch : Sketch
+  pub program : IsJustProgram text sketch
+  pub none : (form : Form) → IsFormOf sketch form → ⊥
+
+-- the file of this name is not there, or something is wrong with its text, or it has the text of a program of no form that is built
 abbrev pub NoForm : FileMap → List ℕ → Outcome → Type 0
 NoForm files name it =
     ((map.get files name ≡ None) × (it ≡ absent name))
-    ⊎ ((text : List ℕ) × (map.get files name ≡ Some text) × ((form : Form) → IsForm text form → ⊥) × (it ≡ not_built))
+    ⊎ ((text : List ℕ) × (map.get files name ≡ Some text) × (line : ℕ) × (what : What) × IsRefusedBy text (At line what) × (it ≡ bad_program line what))
+    ⊎ (HasOtherForm files name × (it ≡ not_built))
+
+-- the causes of a refusal where the text of a program is read
+abbrev pub TextRefused : Refusal → List ℕ → Type 0
+TextRefused refusal.Usage text = ⊥
+TextRefused (refusal.Absent name) text = ⊥
+TextRefused (refusal.BadProgram line what) text = IsRefusedBy text (At line what)
+TextRefused refusal.NotBuilt text = (sketch : Sketch) × IsJustProgram text sketch × ((form : Form) → IsFormOf sketch form → ⊥)
+TextRefused (refusal.BadTable name what) text = ⊥
+TextRefused refusal.Device text = ⊥
+TextRefused refusal.Memory text = Unit {0}
 
 -- the schedule that is asked for is there, and is the one schedule
 abbrev pub HasSchedule : FileMap → Option (List ℕ) → Type 0
@@ -70,6 +94,7 @@ NoRows files table it =
 abbrev pub Refused : Refusal → (Outcome → Type 0) → Type 0 → Type 0 → Type 0
 Refused refusal.Usage P faults absents = ⊥
 Refused (refusal.Absent name) P faults absents = absents × P (absent name)
+Refused (refusal.BadProgram line what) P faults absents = P (bad_program line what)
 Refused refusal.NotBuilt P faults absents = P not_built
 Refused (refusal.BadTable name what) P faults absents = P (bad_table name what)
 Refused refusal.Device P faults absents = faults
@@ -79,6 +104,7 @@ Refused refusal.Memory P faults absents = Unit {0}
 abbrev pub BytesRefused : Refusal → TableForm → List ℕ → Type 0
 BytesRefused refusal.Usage table bytes = ⊥
 BytesRefused (refusal.Absent name) table bytes = ⊥
+BytesRefused (refusal.BadProgram line what) table bytes = ⊥
 BytesRefused refusal.NotBuilt table bytes = ⊥
 BytesRefused (refusal.BadTable name what) table bytes = (name ≡ table.name) × HasTableFault pairs bytes what × (what ≢ fault.Memory)
 BytesRefused refusal.Device table bytes = ⊥
@@ -88,6 +114,7 @@ BytesRefused refusal.Memory table bytes = Unit {0}
 abbrev pub WriteRefused : Refusal → Type 0 → Type 0
 WriteRefused refusal.Usage faults = ⊥
 WriteRefused (refusal.Absent name) faults = ⊥
+WriteRefused (refusal.BadProgram line what) faults = ⊥
 WriteRefused refusal.NotBuilt faults = ⊥
 WriteRefused (refusal.BadTable name what) faults = ⊥
 WriteRefused refusal.Device faults = faults
@@ -97,6 +124,7 @@ WriteRefused refusal.Memory faults = Unit {0}
 abbrev pub AbsentOf : List ℕ → Refusal → Type 0
 AbsentOf name refusal.Usage = ⊥
 AbsentOf name (refusal.Absent other) = other ≡ name
+AbsentOf name (refusal.BadProgram line what) = ⊥
 AbsentOf name refusal.NotBuilt = ⊥
 AbsentOf name (refusal.BadTable table what) = ⊥
 AbsentOf name refusal.Device = ⊥
@@ -106,6 +134,7 @@ AbsentOf name refusal.Memory = Unit {0}
 abbrev pub BadTableOf : TableForm → TableFault → Refusal → Type 0
 BadTableOf table what' refusal.Usage = ⊥
 BadTableOf table what' (refusal.Absent name) = ⊥
+BadTableOf table what' (refusal.BadProgram line wrong) = ⊥
 BadTableOf table what' refusal.NotBuilt = ⊥
 BadTableOf table what' (refusal.BadTable name what) = (name ≡ table.name) × (what ≡ what')
 BadTableOf table what' refusal.Device = ⊥
@@ -127,6 +156,7 @@ WrittenPart out parts before after = (written : List (List ℕ)) × AreFirstOf (
 abbrev pub CommandRefused : Asked → Option FileMap → Option FileMap → Type 0 → Type 0 → Refusal → Type 0
 CommandRefused asked before after faults absents refusal.Usage = ⊥
 CommandRefused asked before after faults absents (refusal.Absent name) = absents × (after ≡ before) × IfSome before (λ files. Judged (ComesTo files asked) (absent name))
+CommandRefused asked before after faults absents (refusal.BadProgram line what) = (after ≡ before) × IfSome before (λ files. Judged (ComesTo files asked) (bad_program line what))
 CommandRefused asked before after faults absents refusal.NotBuilt = (after ≡ before) × IfSome before (λ files. Judged (ComesTo files asked) not_built)
 CommandRefused asked before after faults absents (refusal.BadTable name what) = (after ≡ before) × IfSome before (λ files. Judged (ComesTo files asked) (bad_table name what))
 CommandRefused asked before after faults absents refusal.Device = faults × LeavesSome asked before after
@@ -142,6 +172,7 @@ abbrev pub Came : List (List ℕ) → Option FileMap → Option FileMap → Type
 Came words before after faults absents (Ok ended) = (asked : Asked) × AskFor words asked × CommandDone asked before after ended
 Came words before after faults absents (Err refusal.Usage) = IsUsage words × (after ≡ before)
 Came words before after faults absents (Err (refusal.Absent name)) = (asked : Asked) × AskFor words asked × CommandRefused asked before after faults absents (refusal.Absent name)
+Came words before after faults absents (Err (refusal.BadProgram line what)) = (asked : Asked) × AskFor words asked × CommandRefused asked before after faults absents (refusal.BadProgram line what)
 Came words before after faults absents (Err refusal.NotBuilt) = (asked : Asked) × AskFor words asked × CommandRefused asked before after faults absents refusal.NotBuilt
 Came words before after faults absents (Err (refusal.BadTable name what)) = (asked : Asked) × AskFor words asked × CommandRefused asked before after faults absents (refusal.BadTable name what)
 Came words before after faults absents (Err refusal.Device) = (asked : Asked) × AskFor words asked × CommandRefused asked before after faults absents refusal.Device
@@ -160,6 +191,7 @@ abbrev pub Answered : Result Ended Refusal → Option (List ℕ) → Option (Lis
 Answered (Ok ended) before after faults result = Said 0 (report ended.rounds (ending_of ended.end)) before after faults result
 Answered (Err refusal.Usage) before after faults result = Said 1 usage_line before after faults result
 Answered (Err (refusal.Absent name)) before after faults result = Said 11 (absent_line name) before after faults result
+Answered (Err (refusal.BadProgram line what)) before after faults result = Said 2 (program_line line what) before after faults result
 Answered (Err refusal.NotBuilt) before after faults result = Said 12 not_built_line before after faults result
 Answered (Err (refusal.BadTable name what)) before after faults result = Said 3 (table_line name what) before after faults result
 Answered (Err refusal.Device) before after faults result = Said 8 device_line before after faults result

@@ -3,18 +3,22 @@ ghost use Rattle.std.specs.Option.{option_copied};
 ghost use Rattle.std.specs.FinMap as map;
 ghost use Rattle.hal_base.specs.Lines.{StandsFor};
 ghost use Rattle.hal_outside.specs.Told.{Rose};
-ghost use Rattle.program_form.specs.Forms.{IsForm};
+ghost use Rattle.program_form.specs.Forms.{KeepsRules};
 ghost use Rattle.program_form.specs.Shapes as shapes;
+ghost use Rattle.program_form.specs.Forms.{IsFormOf};
+ghost use Rattle.loop_program.specs.declared.sketch.Sketch.{Sketch as Program};
+ghost use Rattle.loop_program.specs.Programs.{IsJustProgram};
 ghost use Rattle.haloop_run.specs.Inputs as inputs;
 ghost use Rattle.haloop_run.specs.Inputs.{ComesTo, TablesComeTo};
-ghost use Rattle.haloop_run.specs.Steps.{AbsentOf, BadTableOf, BytesRefused, HasForm, HasRows, HasSchedule, Judged, NoForm, NoRows, NoSchedule, OtherSchedule, Refused};
+ghost use Rattle.haloop_run.specs.Steps.{AbsentOf, BadTableOf, BytesRefused, HasForm, HasRows, HasSchedule, Judged, NoForm, NoRows, NoSchedule, OtherSchedule, Refused, TextRefused};
 ghost use Rattle.haloop_run.specs.Texts.{asked_by};
 
 use crate::refusal::Refusal;
 use crate::words::Command;
 use hal_base::{CopyIn, Items, Memory, Records, TableFault, Tables, read_table};
 use hal_outside::{FileFault, Files};
-use program_form::{Form, TableForm, pairs, read_form};
+use loop_program::{ProgramFault, Sketch, parse_program};
+use program_form::{Form, TableForm, form_of, pairs};
 use std::alloc::Global;
 
 /// A program, and the records of each of its tables.
@@ -34,7 +38,7 @@ pub(crate) fn accepted_input<F: Files>(
     ensures faults_stay { F.faults files.old ≤ F.faults files.new }
     ensures absents_stay { F.absents files.old ≤ F.absents files.new }
     ensures kept { F.told files.new ≡ F.told files.old }
-    ensures good { IfOk result (λ input. (text : List ℕ) × IsForm text input.form) }
+    ensures good { IfOk result (λ input. KeepsRules input.form) }
     ensures found { IfOk result (λ input. IfSome (F.told files.old) (λ told. Judged (ComesTo told (asked_by command.now)) (inputs.accepted input.form input.tables))) }
     ensures refused { IfErr result (λ refusal. Refused refusal
         (λ it. IfSome (F.told files.old) (λ told. Judged (ComesTo told (asked_by command.now)) it))
@@ -50,16 +54,38 @@ fn read_program<F: Files>(alloc: Global, name: &str, files: &mut F) -> Result<Fo
     ensures faults_stay { F.faults files.old ≤ F.faults files.new }
     ensures absents_stay { F.absents files.old ≤ F.absents files.new }
     ensures kept { F.told files.new ≡ F.told files.old }
-    ensures good { IfOk result (λ form. (text : List ℕ) × IsForm text form) }
+    ensures good { IfOk result KeepsRules }
     ensures found { IfOk result (λ form. IfSome (F.told files.old) (λ told. HasForm told name.now form)) }
     ensures refused { IfErr result (λ refusal. Refused refusal
         (λ it. IfSome (F.told files.old) (λ told. NoForm told name.now it))
         (Rose (F.faults files.old) (F.faults files.new)) (Rose (F.absents files.old) (F.absents files.new))) }
 {
     let text = read_file(alloc, name, files)?;
-    match read_form(alloc, text.as_slice())? {
+    form_in(alloc, text.as_slice())
+}
+
+/// The program of this text, if it is of the form that is built.
+fn form_in(alloc: Global, text: &[u8]) -> Result<Form, Refusal>
+    ensures good { IfOk result KeepsRules }
+    ensures found { IfOk result (λ form. (sketch : Program) × IsJustProgram text.now sketch × IsFormOf sketch form) }
+    ensures refused { IfErr result (λ refusal. TextRefused refusal text.now) }
+{
+    let sketch = sketch_in(alloc, text)?;
+    match form_of(alloc, &sketch)? {
         Some(form) => Ok(form),
         None => Err(Refusal::NotBuilt),
+    }
+}
+
+/// The program of this text.
+fn sketch_in(alloc: Global, text: &[u8]) -> Result<Sketch, Refusal>
+    ensures found { IfOk result (IsJustProgram text.now) }
+    ensures refused { IfErr result (λ refusal. TextRefused refusal text.now) }
+{
+    match parse_program(alloc, text) {
+        Ok(sketch) => Ok(sketch),
+        Err(ProgramFault::At { line, what }) => Err(Refusal::BadProgram { line, what }),
+        Err(ProgramFault::Memory) => Err(Refusal::Memory),
     }
 }
 

@@ -4,6 +4,7 @@ ghost use Rattle.plain_job.specs.Plain.{ending_of};
 ghost use Rattle.haloop_run.specs.Outputs as outputs;
 
 use hal_base::{LineFault, Memory, TableFault, append_number};
+use loop_program::What;
 use plain_job::End;
 use std::alloc::Global;
 
@@ -12,7 +13,7 @@ pub(crate) fn report(alloc: Global, rounds: u32, end: End) -> Result<Vec<u8>, Me
     ensures { IfOk result (λ text. text.items ≡ outputs.report rounds (ending_of end)) }
 {
     let mut text = Vec::new(alloc);
-    append_number(&mut text, b"rounds ", rounds)?;
+    append_number(&mut text, b"rounds ", u64::from(rounds))?;
     text.extend_from_slice(b"\nend ")?;
     text.extend_from_slice(end_word(end))?;
     text.extend_from_slice(b"\n")?;
@@ -38,6 +39,26 @@ pub(crate) fn absent_line(alloc: Global, name: &[u8]) -> Result<Vec<u8>, Memory>
     Ok(line)
 }
 
+pub(crate) fn program_line(alloc: Global, line: u64, what: What) -> Result<Vec<u8>, Memory>
+    ensures { IfOk result (λ text. text.items ≡ outputs.program_line line what) }
+{
+    let mut text = Vec::new(alloc);
+    append_number(&mut text, b"error: program line ", line)?;
+    text.extend_from_slice(b": ")?;
+    text.extend_from_slice(what_word(what))?;
+    text.extend_from_slice(b"\n")?;
+    Ok(text)
+}
+
+fn what_word(what: What) -> &'static [u8]
+    ensures { result.now ≡ outputs.what_text what }
+{
+    match what {
+        What::Syntax => b"syntax",
+        What::Limit => b"limit",
+    }
+}
+
 pub(crate) fn table_line(alloc: Global, name: &[u8], what: TableFault) -> Result<Vec<u8>, Memory>
     ensures { IfOk result (λ line. line.items ≡ outputs.table_line name.now what) }
 {
@@ -53,12 +74,12 @@ fn push_table_fault(line: &mut Vec<u8>, what: TableFault) -> Result<(), Memory>
 {
     match what {
         TableFault::Line { line: number, what } => {
-            append_number(line, b" line ", number)?;
+            append_number(line, b" line ", u64::from(number))?;
             line.extend_from_slice(b": ")?;
             push_line_fault(line, what)
         }
         TableFault::TooMany { line: number } => {
-            append_number(line, b" line ", number)?;
+            append_number(line, b" line ", u64::from(number))?;
             Ok(line.extend_from_slice(b": limit")?)
         }
         TableFault::Memory => Ok(line.extend_from_slice(b" line memory")?),
@@ -70,8 +91,8 @@ fn push_line_fault(line: &mut Vec<u8>, what: LineFault) -> Result<(), Memory>
 {
     match what {
         LineFault::FieldCount => Ok(line.extend_from_slice(b"field-count")?),
-        LineFault::BadNumber { field } => append_number(line, b"bad-number ", field),
-        LineFault::BadText { field } => append_number(line, b"bad-text ", field),
+        LineFault::BadNumber { field } => append_number(line, b"bad-number ", u64::from(field)),
+        LineFault::BadText { field } => append_number(line, b"bad-text ", u64::from(field)),
         LineFault::Memory => Ok(line.extend_from_slice(b"memory")?),
     }
 }

@@ -1,4 +1,5 @@
 use hal_base::{Items, Memory, TableFault, Text};
+use loop_program::What;
 
 /// Why a command did not do what it was asked.
 #[derive(Drop)]
@@ -7,6 +8,8 @@ pub(crate) enum Refusal {
     Usage,
     /// The file of this name is not there.
     Absent(Items<u8>),
+    /// This is wrong with the program in this line.
+    BadProgram { line: u64, what: What },
     /// The program or the schedule is of a form that is not built yet.
     NotBuilt,
     /// The file of the table of this name stands for no table.

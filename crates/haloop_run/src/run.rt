@@ -1,7 +1,7 @@
 ghost use Rattle.std.specs.Prelude.{◌≡◌, ◌≤◌, ℕ, List, IfOk, IfErr};
 ghost use Rattle.hal_outside.specs.Told.{Rose};
 ghost use Rattle.plain_job.specs.Plain.{IsPlainChain};
-ghost use Rattle.program_form.specs.Forms.{IsForm};
+ghost use Rattle.program_form.specs.Forms.{KeepsRules};
 ghost use Rattle.program_form.specs.Shapes.{meaning_of, shape_of};
 ghost use Rattle.haloop_run.specs.Steps.{CommandDone, CommandRefused};
 ghost use Rattle.haloop_run.specs.Texts.{asked_by};
@@ -47,7 +47,7 @@ pub(crate) fn perform_command<F: Files>(
 
 /// The chain of an accepted input, which is given up.
 fn chain_of(alloc: Global, input: Accepted) -> Result<PlainChain, Memory>
-    requires { (text : List ℕ) × IsForm text input.form }
+    requires { KeepsRules input.form }
     ensures { IfOk result (IsPlainChain (meaning_of input.form) (shape_of input.form) input.tables) }
 {
     let shape = form_shape(alloc, &input.form)?;

@@ -1,6 +1,7 @@
 ghost use Rattle.std.specs.Prelude.{◌≡◌, ◌≤◌, ◌⊎◌, ℕ, IfOk, IfSome, List};
 ghost use Rattle.hal_base.specs.declared.table.TableFault.{TableFault};
 ghost use Rattle.hal_outside.specs.Told.{Rose};
+ghost use Rattle.loop_program.specs.declared.fault.What.{What};
 ghost use Rattle.plain_job.specs.Ends.{Ending};
 ghost use Rattle.haloop_run.specs.Inputs as inputs;
 ghost use Rattle.haloop_run.specs.Inputs.{ComesTo, Outcome};
@@ -11,7 +12,7 @@ ghost use Rattle.haloop_run.specs.Steps.{Answered, Came, Performed, Said};
 ghost use Rattle.haloop_run.specs.Texts.{texts};
 ghost use Rattle.haloop_run.specs.Words.{Asked, AskFor, IsUsage};
 
-use crate::lines::{absent_line, report, table_line};
+use crate::lines::{absent_line, program_line, report, table_line};
 use crate::refusal::Refusal;
 use crate::run::{Ended, perform_command};
 use crate::words::asked_command;
@@ -40,13 +41,14 @@ pub fn haloop_top<F: Files, O: Sink>(
     ensures done { result ≡ 0 → (asked : Asked) × AskFor (texts words.now) asked × (rounds : ℕ) × (word : Ending)
         × OnTold (Leaves asked rounds word) (F.told files.old) (F.told files.new) × Gained (O.told out.old) (outputs.report rounds word) (O.told out.new) }
 
-    // 1, 3, 11 and 12: the words, or the first file that is absent or refused, and its line. No file is changed.
+    // 1, 2, 3, 11 and 12: the words, what is wrong with the program, or the first file that is absent or refused, and its line. No file is changed.
     ensures usage { result ≡ 1 → IsUsage (texts words.now) × Gained (O.told out.old) outputs.usage_line (O.told out.new) }
     ensures absents_rose { result ≡ 11 → Rose (F.absents files.old) (F.absents files.new) }
     ensures absent { result ≡ 11 → (name : List ℕ) × InputIs (texts words.now) (F.told files.old) (inputs.absent name) × Gained (O.told out.old) (outputs.absent_line name) (O.told out.new) }
+    ensures bad_program { result ≡ 2 → (line : ℕ) × (what : What) × InputIs (texts words.now) (F.told files.old) (inputs.bad_program line what) × Gained (O.told out.old) (outputs.program_line line what) (O.told out.new) }
     ensures not_built { result ≡ 12 → InputIs (texts words.now) (F.told files.old) inputs.not_built × Gained (O.told out.old) outputs.not_built_line (O.told out.new) }
     ensures bad_table { result ≡ 3 → (name : List ℕ) × (what : TableFault) × InputIs (texts words.now) (F.told files.old) (inputs.bad_table name what) × Gained (O.told out.old) (outputs.table_line name what) (O.told out.new) }
-    ensures kept { (result ≡ 1) ⊎ (result ≡ 3) ⊎ (result ≡ 11) ⊎ (result ≡ 12) → F.told files.new ≡ F.told files.old }
+    ensures kept { (result ≡ 1) ⊎ (result ≡ 2) ⊎ (result ≡ 3) ⊎ (result ≡ 11) ⊎ (result ≡ 12) → F.told files.new ≡ F.told files.old }
 
     // 8 and 10: a count of faults rose, or memory ran out, which no clause ties to anything. Where the sink
     // failed, it has a prefix of the line that was due; the files have the first of the part files, or none.
@@ -96,6 +98,9 @@ fn say<O: Sink>(alloc: Global, done: &Result<Ended, Refusal>, out: &mut O) -> u8
         Ok(ended) => tell_made(out, &report(alloc, ended.rounds, ended.end), 0),
         Err(Refusal::Usage) => tell(out, USAGE, 1),
         Err(Refusal::Absent(name)) => tell_made(out, &absent_line(alloc, name.as_slice()), 11),
+        Err(Refusal::BadProgram { line, what }) => {
+            tell_made(out, &program_line(alloc, *line, *what), 2)
+        }
         Err(Refusal::NotBuilt) => tell(out, b"error: form not built\n", 12),
         Err(Refusal::BadTable { name, what }) => {
             tell_made(out, &table_line(alloc, name.as_slice(), *what), 3)

@@ -1,6 +1,2 @@
-pub mod Bytes
-pub mod Cuts
-pub mod Loops
-pub mod Printing
-pub mod ReadingLaws
+pub mod Collecting
 pub mod ShapeLaws

@@ -12,7 +12,7 @@ use Rattle.plain_job.specs.Plain.{FewSources, FewSteps}
 use Rattle.program_form.specs.declared.form.TableForm.{TableForm}
 use Rattle.program_form.specs.declared.form.StepForm.{StepForm}
 use Rattle.program_form.specs.declared.form.Form.{Form}
-use Rattle.program_form.specs.Forms.{IsForm, IsStepForm, is_known}
+use Rattle.program_form.specs.Forms.{IsStepForm, KeepsRules, is_known}
 use Rattle.program_form.specs.Shapes.{KnowsTables, ReadsBelow, input_of, pairs, place_of, shape_of, step_of, steps_of}
 
 known_place : (name : List ℕ) (tables : List TableForm) → is_known name tables ≡ true → place_of name tables < length tables
@@ -36,8 +36,8 @@ few_in_steps : (tables : List TableForm) (steps : List StepForm) → length step
 few_in_steps tables [] l g = (omega arith, tt)
 few_in_steps tables (first ∷ others) l g = (simp length-map (omega arith), (few_sources tables State first g.0, few_later tables others g.1))
 
-pub form_has_few_steps : (text : List ℕ) (form : Form) → IsForm text form → FewSteps (shape_of form).steps
-form_has_few_steps text form g = few_in_steps form.tables form.steps g.few_steps.1 g.steps
+pub form_has_few_steps : (form : Form) → KeepsRules form → FewSteps (shape_of form).steps
+form_has_few_steps form g = few_in_steps form.tables form.steps g.limits.few_steps.1 g.steps
 
 -- ---- which tables are read
 
@@ -53,8 +53,8 @@ steps_below : (n : ℕ) (tables : List TableForm) (steps : List StepForm) → n 
 steps_below n tables [] e g = tt
 steps_below n tables (first ∷ others) e g = ((tt, inputs_below n tables first.tables e g.0.known), later_below n tables others e g.1)
 
-pub form_knows_tables : (text : List ℕ) (form : Form) → IsForm text form → KnowsTables (shape_of form)
-form_knows_tables text form g =
+pub form_knows_tables : (form : Form) → KeepsRules form → KnowsTables (shape_of form)
+form_knows_tables form g =
     let same : length (map (λ (table : TableForm). pairs) form.tables) ≡ length form.tables = length-map form.tables (λ (table : TableForm). pairs) in
     let start = known_place form.start form.tables g.start in
     record { start = omega arith; steps = steps_below (length (map (λ (table : TableForm). pairs) form.tables)) form.tables form.steps same g.steps }

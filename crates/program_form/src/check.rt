@@ -1,22 +1,20 @@
 ghost use Rattle.std.specs.Prelude.{◌≡◌, true, IsTrue, ◌↔◌};
-ghost use Rattle.std.specs.List.{AllByRecursion};
+ghost use Rattle.std.specs.List.{AllByRecursion, list_all};
 ghost use Rattle.program_form.specs.Forms as forms;
-ghost use Rattle.program_form.specs.Forms.{FitsReduce, IsStepForm, IsTableForm};
-ghost use Rattle.program_form.specs.Rules.{HasLimits, KeepsRules};
+ghost use Rattle.program_form.specs.Forms.{FitsReduce, HasLimits, IsStepForm, KeepsRules, is_file, is_file_byte};
+ghost use Rattle.program_form.specs.declared.form.TableForm.{TableForm as Table};
 
 use crate::form::{Form, Names, StepForm, TableForm};
-use crate::words::{is_file_text, is_name_text};
 use hal_base::Text;
 use predefined_functions::Reduce;
 
-/// Whether the program keeps the rules that its printed text alone does not show.
+/// Whether the program keeps the rules.
 pub(crate) fn keeps_rules(form: &Form) -> bool
     ensures { IsTrue result ↔ KeepsRules form.now }
 {
     let tables = form.tables.as_slice();
     is_within_limits(form)
-        && is_name_text(form.name.as_slice())
-        && are_tables(tables)
+        && have_files(tables)
         && are_different(tables)
         && is_known(&form.start, tables)
         && are_steps(form.steps.as_slice(), tables)
@@ -37,16 +35,31 @@ fn is_within_limits(form: &Form) -> bool
         && steps <= 8
 }
 
-fn are_tables(tables: &[TableForm]) -> bool
-    ensures { IsTrue result ↔ AllByRecursion IsTableForm tables.now }
+fn have_files(tables: &[TableForm]) -> bool
+    ensures { IsTrue result ↔ AllByRecursion (λ (table : Table). is_file table.file ≡ true) tables.now }
 {
-    tables.iter().all(|table| is_table(table))
+    tables
+        .iter()
+        .all(|table| is_file_text(table.file.as_slice()))
 }
 
-fn is_table(table: &TableForm) -> bool
-    ensures { IsTrue result ↔ IsTableForm table.now }
+/// Whether these bytes can be the name of a table's file.
+fn is_file_text(bytes: &[u8]) -> bool
+    ensures { result ≡ is_file bytes.now }
 {
-    is_name_text(table.name.as_slice()) && is_file_text(table.file.as_slice())
+    1 <= bytes.len() && bytes.len() <= 255 && are_of_file(bytes)
+}
+
+fn are_of_file(bytes: &[u8]) -> bool
+    ensures { result ≡ list_all is_file_byte bytes.now }
+{
+    bytes.iter().all(|byte| is_of_file(*byte))
+}
+
+fn is_of_file(byte: u8) -> bool
+    ensures { result ≡ is_file_byte byte }
+{
+    32 <= byte && byte <= 126 && byte != 34 && byte != 92
 }
 
 fn are_different(tables: &[TableForm]) -> bool

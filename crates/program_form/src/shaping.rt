@@ -1,6 +1,6 @@
 ghost use Rattle.std.specs.Prelude.{◌≡◌, ◌++◌, ◌≤◌, IfOk, List, OnOk, map, ℕ};
 ghost use Rattle.plain_job.specs.Plain.{FewSteps};
-ghost use Rattle.program_form.specs.Forms.{IsForm};
+ghost use Rattle.program_form.specs.Forms.{KeepsRules};
 ghost use Rattle.program_form.specs.Shapes as shapes;
 ghost use Rattle.program_form.specs.Shapes.{KnowsTables};
 
@@ -17,8 +17,8 @@ use std::alloc::Global;
 /// steps are few and read tables of the program alone.
 pub fn form_shape(alloc: Global, form: &Form) -> Result<Shape, Memory>
     ensures shape { IfOk result (λ shape. shape ≡ shapes.shape_of form.now) }
-    ensures few { (text : List ℕ) → IsForm text form.now → IfOk result (λ shape. FewSteps shape.steps) }
-    ensures known { (text : List ℕ) → IsForm text form.now → IfOk result KnowsTables }
+    ensures few { KeepsRules form.now → IfOk result (λ shape. FewSteps shape.steps) }
+    ensures known { KeepsRules form.now → IfOk result KnowsTables }
 {
     build_shape(alloc, form)
 }

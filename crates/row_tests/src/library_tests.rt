@@ -1,10 +1,9 @@
-// Vectors for the parts, the test for the end, the shuffle and the program's text.
+// Vectors for the parts, the test for the end and the shuffle.
 use crate::samples::pair;
 use fixpoint_test::{Next, decide, global_distance, part_distance};
 use hal_base::{Memory, Records, SortedStream, Text, Value, default_part, lines, write_line};
 use partition_shuffle::{merge, spill};
 use predefined_functions::{Predefined, Reduces};
-use program_form::{form_shape, form_text, read_form};
 use std::alloc::Global;
 use std::test::Fail;
 
@@ -68,18 +67,5 @@ fn rows_are_spilled_and_merged(rt: HostRuntime) -> Result<(), Fail> {
         );
     }
     assert!(rt; merged.next(rt.alloc())?.is_none());
-    Ok(())
-}
-
-#[test]
-fn programs_are_printed_as_they_are_read(rt: HostRuntime) -> Result<(), Fail> {
-    let text =
-        "program all;\nparts 64;\nrounds 10000;\nstop exact;\ntable t \"a b.tsv\" (int, int);\ntable u_2 \"~\" (int, int);\nbegin u_2;\nstep { state by same; reduce every; }\nstep { prev by same; table t by same; reduce hop; }\n";
-    let form = read_form(rt.alloc(), text.as_bytes())?.ok_or("no program")?;
-    assert!(rt; form_text(rt.alloc(), &form)?.as_slice() == text.as_bytes());
-    let shape = form_shape(rt.alloc(), &form)?;
-    assert_eq!(rt; shape.start, 1);
-    assert_eq!(rt; shape.steps.len(), 2);
-    assert!(rt; read_form(rt.alloc(), text[1..].as_bytes())?.is_none());
     Ok(())
 }

@@ -128,8 +128,8 @@ fn refusals_name_their_cause(rt: HostRuntime) -> Result<(), Fail> {
         (
             &["plain", "s.txt", "out"],
             links,
-            12,
-            "error: form not built\n",
+            2,
+            "error: program line 1: syntax\n",
         ),
         (
             &["plain", "p.hal", "out"],

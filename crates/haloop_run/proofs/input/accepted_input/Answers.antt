@@ -3,8 +3,14 @@ use Rattle.std.proofs.lemmas.Result.{err_from_is_err_and}
 use Rattle.hal_outside.proofs.Counts.{rose_before}
 use Rattle.haloop_run.specs.Inputs as inputs
 use Rattle.haloop_run.specs.Texts.{asked_by}
-use Rattle.haloop_run.proofs.InputLaws.{refused_more, told_no_schedule, told_tables}
+use Rattle.haloop_run.proofs.InputLaws.{refused_more, told_no_form, told_no_schedule, told_tables}
 use Rattle.haloop_run.proofs.input.accepted_input.Goals as goal
+
+pub returns-in_err-form-clause-refused : goal.returns-in_err-form-clause-refused
+returns-in_err-form-clause-refused g c =
+    let r = err_from_is_err_and c.from_residual.result c.from_residual.ensures.1 in
+    rw (r.1, r.2)
+    (refused_more _ _ _ _ _ _ (λ faults. faults) (λ absents. absents) (λ it n. told_no_form (asked_by c.args.command.now) (g.F.Files.told c.args.files.now) it n) c.in_err-form.field-0.0 c.in_err-form.ensures.refused)
 
 pub returns-in_err-read_schedule-clause-refused : goal.returns-in_err-read_schedule-clause-refused
 returns-in_err-read_schedule-clause-refused g c =

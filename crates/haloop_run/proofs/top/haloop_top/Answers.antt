@@ -1,8 +1,11 @@
-use Rattle.haloop_run.proofs.TopLaws.{left, said_due, said_device, said_absent, said_not_built, said_bad_table, answered}
+use Rattle.haloop_run.proofs.TopLaws.{left, said_due, said_device, said_absent, said_bad_program, said_not_built, said_bad_table, answered}
 use Rattle.haloop_run.proofs.top.haloop_top.Goals as goal
 
 pub returns-clause-absent : goal.returns-clause-absent
 returns-clause-absent g c = let p = c.perform.ensures.performed in said_absent _ _ _ _ _ _ _ _ _ p.done p.came p.answered
+
+pub returns-clause-bad_program : goal.returns-clause-bad_program
+returns-clause-bad_program g c = let p = c.perform.ensures.performed in said_bad_program _ _ _ _ _ _ _ _ _ p.done p.came p.answered
 
 pub returns-clause-not_built : goal.returns-clause-not_built
 returns-clause-not_built g c = let p = c.perform.ensures.performed in said_not_built _ _ _ _ _ _ _ _ _ p.done p.came p.answered

@@ -1,0 +1,230 @@
+-- The readers of functions are right.
+use Rattle.std.proofs.Common.{Bool, Err, List, [], ap, append_assoc, codes, false, inl, inr, map, refl, sym, true, ℕ, ◌++◌, ◌||◌, ◌∙◌, ◌∷◌, ◌≡◌}
+use Rattle.std.specs.Str.{bytes_eq}
+use Rattle.hal_base.specs.declared.value.Kind.{Kind}
+use Rattle.program_tokens.specs.Front.{is_plain, sees}
+use Rattle.program_tokens.specs.declared.token.Token.{Token}
+use Rattle.function_language.specs.Parsers.{expect, expect_line, pure, separated, ◌>>=◌, ◌>>◌}
+use Rattle.function_language.specs.Pieces.{Piece, end, name, placed, plain}
+use Rattle.function_language.specs.Reading.{begins_function, block, distance_function, function, functions, kinds, map_function, only_functions, param, partition_function, reduce_function, stream}
+use Rattle.function_language.specs.Spelled.{block_pieces, function_pieces, functions_pieces, in_parentheses, kinds_pieces, out_pieces, param_pieces, some_separated, stream_pieces}
+use Rattle.function_language.specs.declared.tree.Function.{Function}
+use Rattle.function_language.specs.declared.tree.Function.TheVariants as a_function
+use Rattle.function_language.specs.declared.tree.Ident.{Ident}
+use Rattle.function_language.specs.declared.tree.Param.{Param}
+use Rattle.function_language.specs.declared.tree.Row.{Row}
+use Rattle.function_language.specs.declared.tree.Statement.{Statement}
+use Rattle.function_language.specs.declared.tree.Stream.{Stream}
+use Rattle.function_language.proofs.Right.{Exactly, Right, Spells, respelled}
+use Rattle.function_language.proofs.Choices.{Either, Not}
+use Rattle.function_language.proofs.Firsts.{Begins, Free, Stopping, begins_follows, either_begins}
+use Rattle.function_language.proofs.OneToken.{end_right, expect_line_right, ident_right}
+use Rattle.function_language.proofs.Parts.{Made, exactly, free_part, last_part, made_begins, part, word_then}
+use Rattle.function_language.proofs.Avoiding.{Avoids, Unseen, eat_right, mark_follows, passed, plain_avoids, refused_unseen}
+use Rattle.function_language.proofs.Many.{separated_right, while_from_right}
+use Rattle.function_language.proofs.GrammarKinds.{kinds_right, param_right, stream_right}
+use Rattle.function_language.proofs.GrammarStatements.{block_right}
+
+-- ---- the kinds of functions
+
+-- a parameter is something
+param_some : (p : Param) → param_pieces p ≡ [] → ⊥
+param_some p e = cc
+
+-- a stream is something
+stream_some : (s : Stream) → stream_pieces s ≡ [] → ⊥
+stream_some s e = cc
+
+-- parameters
+params_right : Right (Exactly (λ ps. some_separated (map param_pieces ps))) (Unseen (codes ",")) (separated param)
+params_right = separated_right param_pieces Free (Unseen (codes ",")) param (param_right Free) param_some (λ token tokens fits. tt) (λ rest stop. tt) (λ rest stop. stop)
+
+-- streams
+streams_right : Right (Exactly (λ ss. some_separated (map stream_pieces ss))) (Unseen (codes ",")) (separated stream)
+streams_right = separated_right stream_pieces Free (Unseen (codes ",")) stream (stream_right Free) stream_some (λ token tokens fits. tt) (λ rest stop. tt) (λ rest stop. stop)
+
+-- the arrow, what is emitted, and the body
+abbrev Out : Type 0
+Out = ℕ × (List Kind × List Statement)
+
+-- how they are spelled
+abbrev out_of : Out → List Piece
+out_of c = placed (codes "->") c.0 ∷ (kinds_pieces c.1.0 ++ block_pieces 32 c.1.1)
+
+-- they are read right
+out_right : (made : ℕ → List Kind → List Statement → Function) → Right (Made {C = Out} (λ c. made c.0 c.1.0 c.1.1) out_of) Free (expect_line (codes "->") >>= λ arrow. kinds >>= λ out. block 32 >>= λ body. pure (made arrow out body))
+out_right made = free_part {make = λ (c : Out). made c.0 c.1.0 c.1.1} (expect_line_right (codes "->") Free) (λ arrow. free_part (kinds_right Free) (λ out. last_part (λ body. made arrow out body) (block_right 32 Free)))
+
+-- a `map`
+abbrev Mapped : Spells Function
+Mapped = Made {C = Ident × (List Param × Out)} (λ c. a_function.Map c.0 c.1.0 c.1.1.0 (record { kinds = c.1.1.1.0 }) c.1.1.1.1)
+    (λ c. plain (codes "map") ∷ name c.0 ∷ plain (codes "(") ∷ (some_separated (map param_pieces c.1.0) ++ plain (codes ")") ∷ out_of c.1.1))
+
+-- a `map` is read right
+map_right : Right Mapped Free (expect (codes "map") >> map_function)
+unfolding map_function
+map_right = word_then (codes "map") (free_part (ident_right Free) (λ i. word_then (codes "(") (part params_right
+    (λ ps. word_then (codes ")") (out_right (λ arrow out body. a_function.Map i ps arrow (record { kinds = out }) body)))
+    (λ ps. mark_follows (λ c. a_function.Map i ps c.0 (record { kinds = c.1.0 }) c.1.1) out_of Free (codes ")") (codes ",") refl))))
+
+-- a `reduce`
+abbrev Reduced : Spells Function
+Reduced = Made {C = Ident × (Param × (List Stream × Out))} (λ c. a_function.Reduce c.0 c.1.0 c.1.1.0 c.1.1.1.0 (record { kinds = c.1.1.1.1.0 }) c.1.1.1.1.1)
+    (λ c. plain (codes "reduce") ∷ name c.0 ∷ plain (codes "(") ∷ (param_pieces c.1.0 ++ plain (codes ";") ∷ (some_separated (map stream_pieces c.1.1.0) ++ plain (codes ")") ∷ out_of c.1.1.1)))
+
+-- a `reduce` is read right
+reduce_right : Right Reduced Free (expect (codes "reduce") >> reduce_function)
+unfolding reduce_function
+reduce_right = word_then (codes "reduce") (free_part (ident_right Free) (λ i. word_then (codes "(") (free_part (param_right Free) (λ key. word_then (codes ";") (part streams_right
+    (λ ss. word_then (codes ")") (out_right (λ arrow out body. a_function.Reduce i key ss arrow (record { kinds = out }) body)))
+    (λ ss. mark_follows (λ c. a_function.Reduce i key ss c.0 (record { kinds = c.1.0 }) c.1.1) out_of Free (codes ")") (codes ",") refl))))))
+
+-- a `distance`
+abbrev Measured : Spells Function
+Measured = Made {C = Ident × (Param × (Stream × (Stream × List Statement)))} (λ c. a_function.Distance c.0 c.1.0 c.1.1.0 c.1.1.1.0 c.1.1.1.1)
+    (λ c. plain (codes "distance") ∷ name c.0 ∷ plain (codes "(") ∷ (param_pieces c.1.0 ++ plain (codes ";") ∷ (stream_pieces c.1.1.0 ++ plain (codes ",") ∷ (stream_pieces c.1.1.1.0 ++ plain (codes ")") ∷ block_pieces 32 c.1.1.1.1))))
+
+-- a `distance` is read right
+distance_right : Right Measured Free (expect (codes "distance") >> distance_function)
+unfolding distance_function
+distance_right = word_then (codes "distance") (free_part (ident_right Free) (λ i. word_then (codes "(") (free_part (param_right Free) (λ key. word_then (codes ";") (free_part (stream_right Free) (λ before. word_then (codes ",")
+    (free_part (stream_right Free) (λ after. word_then (codes ")") (last_part (λ body. a_function.Distance i key before after body) (block_right 32 Free))))))))))
+
+-- a `partition`
+abbrev Parted : Spells Function
+Parted = Made {C = Ident × (Param × List Statement)} (λ c. a_function.Partition c.0 c.1.0 c.1.1)
+    (λ c. plain (codes "partition") ∷ name c.0 ∷ plain (codes "(") ∷ (param_pieces c.1.0 ++ plain (codes ")") ∷ block_pieces 32 c.1.1))
+
+-- a `partition` is read right
+partition_right : Right Parted Free (expect (codes "partition") >> partition_function)
+unfolding partition_function
+partition_right = word_then (codes "partition") (free_part (ident_right Free) (λ i. word_then (codes "(") (free_part (param_right Free) (λ key. word_then (codes ")") (last_part (λ body. a_function.Partition i key body) (block_right 32 Free))))))
+
+-- ---- the choice between them
+
+-- a `distance` or a `partition`
+abbrev FromDistance : Spells Function
+FromDistance = Either Measured Parted
+
+-- these or a `reduce`
+abbrev FromReduce : Spells Function
+FromReduce = Either Reduced FromDistance
+
+-- these or a `map`
+abbrev Functions : Spells Function
+Functions = Either Mapped FromReduce
+
+-- neither begins with another word
+from_distance_begins : (word : List ℕ) → bytes_eq (codes "distance") word ≡ false → bytes_eq (codes "partition") word ≡ false → Begins (Avoids word) FromDistance
+from_distance_begins word d p = either_begins (Avoids word) (made_begins (Avoids word) (λ c. plain_avoids (codes "distance") word d)) (made_begins (Avoids word) (λ c. plain_avoids (codes "partition") word p))
+
+-- none of these begins with another word
+from_reduce_begins : (word : List ℕ) → bytes_eq (codes "reduce") word ≡ false → bytes_eq (codes "distance") word ≡ false → bytes_eq (codes "partition") word ≡ false → Begins (Avoids word) FromReduce
+from_reduce_begins word r d p = either_begins (Avoids word) (made_begins (Avoids word) (λ c. plain_avoids (codes "reduce") word r)) (from_distance_begins word d p)
+
+-- one of the kinds of functions is read right
+chosen_right : Right Functions Free function
+unfolding function
+chosen_right =
+    eat_right (codes "map") {one = Mapped} {other = FromReduce} _ _ map_right
+    (eat_right (codes "reduce") {one = Reduced} {other = FromDistance} _ _ reduce_right
+    (eat_right (codes "distance") {one = Measured} {other = Parted} _ _ distance_right partition_right
+    (begins_follows Parted Free (Unseen (codes "distance")) (made_begins (Avoids (codes "distance")) (λ c. plain_avoids (codes "partition") (codes "distance") refl))))
+    (begins_follows FromDistance Free (Unseen (codes "reduce")) (from_distance_begins (codes "reduce") refl refl)))
+    (begins_follows FromReduce Free (Unseen (codes "map")) (from_reduce_begins (codes "map") refl refl refl))
+
+-- ---- as functions are spelled
+
+-- what stands between parentheses, and what stands behind them
+closed_before : (inner others : List Piece) → in_parentheses inner ++ others ≡ plain (codes "(") ∷ (inner ++ plain (codes ")") ∷ others)
+closed_before inner others = ap (◌∷◌ (plain (codes "("))) (append_assoc inner (plain (codes ")") ∷ []) others)
+
+-- a `map`, one place after another
+map_spelled : (i : Ident) (ps : List Param) (arrow : ℕ) (out : Row) (body : List Statement) → function_pieces (a_function.Map i ps arrow out body)
+    ≡ plain (codes "map") ∷ name i ∷ plain (codes "(") ∷ (some_separated (map param_pieces ps) ++ plain (codes ")") ∷ out_pieces arrow out body)
+map_spelled i ps arrow out body = ap (λ pieces. plain (codes "map") ∷ name i ∷ pieces) (closed_before (some_separated (map param_pieces ps)) (out_pieces arrow out body))
+
+-- a `reduce`, one place after another
+reduce_spelled : (i : Ident) (key : Param) (ss : List Stream) (arrow : ℕ) (out : Row) (body : List Statement) → function_pieces (a_function.Reduce i key ss arrow out body)
+    ≡ plain (codes "reduce") ∷ name i ∷ plain (codes "(") ∷ (param_pieces key ++ plain (codes ";") ∷ (some_separated (map stream_pieces ss) ++ plain (codes ")") ∷ out_pieces arrow out body))
+reduce_spelled i key ss arrow out body =
+    let streams = some_separated (map stream_pieces ss) in
+    let others = out_pieces arrow out body in
+    ap (λ pieces. plain (codes "reduce") ∷ name i ∷ pieces) (
+    closed_before (param_pieces key ++ plain (codes ";") ∷ streams) others
+    ∙ ap (◌∷◌ (plain (codes "("))) (append_assoc (param_pieces key) (plain (codes ";") ∷ streams) (plain (codes ")") ∷ others)))
+
+-- a `distance`, one place after another
+distance_spelled : (i : Ident) (key : Param) (before after : Stream) (body : List Statement) → function_pieces (a_function.Distance i key before after body)
+    ≡ plain (codes "distance") ∷ name i ∷ plain (codes "(") ∷ (param_pieces key ++ plain (codes ";") ∷ (stream_pieces before ++ plain (codes ",") ∷ (stream_pieces after ++ plain (codes ")") ∷ block_pieces 32 body)))
+distance_spelled i key before after body =
+    let others = plain (codes ")") ∷ block_pieces 32 body in
+    ap (λ pieces. plain (codes "distance") ∷ name i ∷ pieces) (
+    closed_before (param_pieces key ++ plain (codes ";") ∷ stream_pieces before ++ plain (codes ",") ∷ stream_pieces after) (block_pieces 32 body)
+    ∙ ap (◌∷◌ (plain (codes "("))) (
+    append_assoc (param_pieces key ++ plain (codes ";") ∷ stream_pieces before) (plain (codes ",") ∷ stream_pieces after) others
+    ∙ append_assoc (param_pieces key) (plain (codes ";") ∷ stream_pieces before) (plain (codes ",") ∷ (stream_pieces after ++ others))))
+
+-- a `partition`, one place after another
+partition_spelled : (i : Ident) (key : Param) (body : List Statement) → function_pieces (a_function.Partition i key body)
+    ≡ plain (codes "partition") ∷ name i ∷ plain (codes "(") ∷ (param_pieces key ++ plain (codes ")") ∷ block_pieces 32 body)
+partition_spelled i key body = ap (λ pieces. plain (codes "partition") ∷ name i ∷ pieces) (closed_before (param_pieces key) (block_pieces 32 body))
+
+-- one of the kinds of functions is a function
+function_to : (f : Function) (pieces : List Piece) → Functions f pieces → pieces ≡ function_pieces f
+function_to f pieces (inl m) = m.as_parts ∙ sym (map_spelled m.parts.0 m.parts.1.0 m.parts.1.1.0 (record { kinds = m.parts.1.1.1.0 }) m.parts.1.1.1.1) ∙ ap function_pieces (sym m.made)
+function_to f pieces (inr (inl m)) =
+    m.as_parts ∙ sym (reduce_spelled m.parts.0 m.parts.1.0 m.parts.1.1.0 m.parts.1.1.1.0 (record { kinds = m.parts.1.1.1.1.0 }) m.parts.1.1.1.1.1) ∙ ap function_pieces (sym m.made)
+function_to f pieces (inr (inr (inl m))) = m.as_parts ∙ sym (distance_spelled m.parts.0 m.parts.1.0 m.parts.1.1.0 m.parts.1.1.1.0 m.parts.1.1.1.1) ∙ ap function_pieces (sym m.made)
+function_to f pieces (inr (inr (inr m))) = m.as_parts ∙ sym (partition_spelled m.parts.0 m.parts.1.0 m.parts.1.1) ∙ ap function_pieces (sym m.made)
+
+-- a function is one of the kinds of functions
+function_from : (f : Function) (pieces : List Piece) → pieces ≡ function_pieces f → Functions f pieces
+function_from (a_function.Map i ps arrow out body) pieces e = inl (record { parts = (i, (ps, (arrow, (out.kinds, body)))); made = refl; as_parts = e ∙ map_spelled i ps arrow out body })
+function_from (a_function.Reduce i key ss arrow out body) pieces e = inr (inl (record { parts = (i, (key, (ss, (arrow, (out.kinds, body))))); made = refl; as_parts = e ∙ reduce_spelled i key ss arrow out body }))
+function_from (a_function.Distance i key before after body) pieces e = inr (inr (inl (record { parts = (i, (key, (before, (after, body)))); made = refl; as_parts = e ∙ distance_spelled i key before after body })))
+function_from (a_function.Partition i key body) pieces e = inr (inr (inr (record { parts = (i, (key, body)); made = refl; as_parts = e ∙ partition_spelled i key body })))
+
+-- a function
+pub function_right : Right (Exactly function_pieces) Free function
+function_right ts = respelled function_to function_from (chosen_right ts)
+
+-- ---- functions one after another
+
+-- where one or the other is not so, neither is
+neither : (a b : Bool) → (a || b) ≡ false → (a ≡ false) × (b ≡ false)
+neither false b e = (refl, e)
+neither true b e = absurd cc
+
+-- where none begins, none is read
+pub function_refused : (ts : List Token) → begins_function ts ≡ false → function ts ≡ Err ts
+unfolding function
+function_refused ts e =
+    let none = neither (sees (codes "map") ts || sees (codes "reduce") ts || sees (codes "distance") ts) (sees (codes "partition") ts) e in
+    let two = neither (sees (codes "map") ts || sees (codes "reduce") ts) (sees (codes "distance") ts) none.0 in
+    let one = neither (sees (codes "map") ts) (sees (codes "reduce") ts) two.0 in
+    passed (codes "map") map_function _ ts one.0 ∙ passed (codes "reduce") reduce_function _ ts one.1 ∙ passed (codes "distance") distance_function _ ts two.1
+    ∙ refused_unseen (codes "partition") partition_function ts none.1
+
+-- a function is something
+pub function_some : (f : Function) → function_pieces f ≡ [] → ⊥
+function_some (a_function.Map i ps arrow out body) e = cc
+function_some (a_function.Reduce i key ss arrow out body) e = cc
+function_some (a_function.Distance i key before after body) e = cc
+function_some (a_function.Partition i key body) e = cc
+
+-- functions
+pub functions_right : Right (Exactly functions_pieces) (λ ts. begins_function ts ≡ false) functions
+functions_right = while_from_right function_pieces begins_function function function_right function_some function_refused
+
+-- the end begins no function
+end_begins_none : Stopping (Not begins_function) end
+end_begins_none token tokens fits =
+    ap (λ l. is_plain (codes "map") l || is_plain (codes "reduce") l || is_plain (codes "distance") l || is_plain (codes "partition") l) fits
+
+-- functions alone
+pub only_functions_right : Right (Exactly (λ fs. functions_pieces fs ++ end ∷ [])) Free only_functions
+unfolding only_functions
+only_functions_right = exactly (λ fs. functions_pieces fs ++ end ∷ []) (λ fs. (fs, tt)) (λ fs. refl) (λ c. refl)
+    (part {make = λ (c : List Function × Unit {0}). c.0} functions_right (λ fs. last_part (λ _. fs) (end_right Free))
+    (λ fs. begins_follows _ Free (Not begins_function) (made_begins (Stopping (Not begins_function)) (λ _. end_begins_none))))

@@ -1,0 +1,147 @@
+ghost use Rattle.std.specs.Prelude.{◌≡◌};
+ghost use Rattle.function_language.specs.Parsers.{Reads};
+ghost use Rattle.function_language.specs.Reading as reading;
+
+use crate::fault::SyntaxFault;
+use crate::items::{Item, Repeated, kinds, param, read_repeated, separated, stream};
+use crate::statement::block;
+use crate::steps::{eat, expect, expect_line, ident};
+use crate::tree::{Function, Row, Tree};
+use program_tokens::Tokens;
+use sqlite_items::Items;
+use std::alloc::Global;
+
+/// How many blocks and calls may be open at once.
+pub(crate) const DEPTH: u32 = 32;
+
+/// Reads functions as long as one comes next. docs/LANGUAGE.md, "Functions".
+#[tactic(auto, using(crate::proofs::Places::read_spelled))]
+pub fn functions(alloc: Global, tokens: &mut Tokens) -> Result<Tree, SyntaxFault>
+    ensures { Reads (reading.functions tokens.old) result tokens.new }
+{
+    let found = read_repeated(alloc, tokens, Items::new(alloc))?;
+    Ok(Tree::new(found))
+}
+
+impl Item for Function {
+    ghost use Rattle.function_language.specs.Reading.{function as function_reader};
+
+    ghost reader = { function_reader };
+
+    #[tactic(auto, using(crate::proofs::Shorter::function_shorter))]
+    fn read(alloc: Global, tokens: &mut Tokens) -> Result<Function, SyntaxFault> {
+        function(alloc, tokens)
+    }
+}
+
+impl Repeated for Function {
+    ghost use Rattle.function_language.specs.Reading.{begins_function};
+
+    ghost begun_by = { begins_function };
+
+    fn comes_next(tokens: &Tokens) -> bool {
+        tokens.sees(b"map")
+            || tokens.sees(b"reduce")
+            || tokens.sees(b"distance")
+            || tokens.sees(b"partition")
+    }
+}
+
+/// Reads a function.
+#[tactic(auto, unfolding(crate::specs::Reading::function))]
+fn function(alloc: Global, tokens: &mut Tokens) -> Result<Function, SyntaxFault>
+    ensures { Reads (reading.function tokens.old) result tokens.new }
+{
+    if eat(alloc, tokens, b"map")? {
+        return map_function(alloc, tokens);
+    }
+    if eat(alloc, tokens, b"reduce")? {
+        return reduce_function(alloc, tokens);
+    }
+    if eat(alloc, tokens, b"distance")? {
+        return distance_function(alloc, tokens);
+    }
+    expect(alloc, tokens, b"partition")?;
+    partition_function(alloc, tokens)
+}
+
+/// Reads a map behind the word.
+#[tactic(auto, unfolding(crate::specs::Reading::map_function))]
+fn map_function(alloc: Global, tokens: &mut Tokens) -> Result<Function, SyntaxFault>
+    ensures { Reads (reading.map_function tokens.old) result tokens.new }
+{
+    let name = ident(alloc, tokens)?;
+    expect(alloc, tokens, b"(")?;
+    let params = separated(alloc, tokens)?;
+    expect(alloc, tokens, b")")?;
+    let arrow = expect_line(alloc, tokens, b"->")?;
+    let kinds = kinds(alloc, tokens)?;
+    let body = block(alloc, tokens, DEPTH)?;
+    Ok(Function::Map {
+        name,
+        params,
+        arrow,
+        out: Row { kinds },
+        body,
+    })
+}
+
+/// Reads a reduce behind the word.
+#[tactic(auto, unfolding(crate::specs::Reading::reduce_function))]
+fn reduce_function(alloc: Global, tokens: &mut Tokens) -> Result<Function, SyntaxFault>
+    ensures { Reads (reading.reduce_function tokens.old) result tokens.new }
+{
+    let name = ident(alloc, tokens)?;
+    expect(alloc, tokens, b"(")?;
+    let key = param(alloc, tokens)?;
+    expect(alloc, tokens, b";")?;
+    let streams = separated(alloc, tokens)?;
+    expect(alloc, tokens, b")")?;
+    let arrow = expect_line(alloc, tokens, b"->")?;
+    let kinds = kinds(alloc, tokens)?;
+    let body = block(alloc, tokens, DEPTH)?;
+    Ok(Function::Reduce {
+        name,
+        key,
+        streams,
+        arrow,
+        out: Row { kinds },
+        body,
+    })
+}
+
+/// Reads a distance behind the word.
+#[tactic(auto, unfolding(crate::specs::Reading::distance_function))]
+fn distance_function(alloc: Global, tokens: &mut Tokens) -> Result<Function, SyntaxFault>
+    ensures { Reads (reading.distance_function tokens.old) result tokens.new }
+{
+    let name = ident(alloc, tokens)?;
+    expect(alloc, tokens, b"(")?;
+    let key = param(alloc, tokens)?;
+    expect(alloc, tokens, b";")?;
+    let before = stream(alloc, tokens)?;
+    expect(alloc, tokens, b",")?;
+    let after = stream(alloc, tokens)?;
+    expect(alloc, tokens, b")")?;
+    let body = block(alloc, tokens, DEPTH)?;
+    Ok(Function::Distance {
+        name,
+        key,
+        before,
+        after,
+        body,
+    })
+}
+
+/// Reads a partition behind the word.
+#[tactic(auto, unfolding(crate::specs::Reading::partition_function))]
+fn partition_function(alloc: Global, tokens: &mut Tokens) -> Result<Function, SyntaxFault>
+    ensures { Reads (reading.partition_function tokens.old) result tokens.new }
+{
+    let name = ident(alloc, tokens)?;
+    expect(alloc, tokens, b"(")?;
+    let key = param(alloc, tokens)?;
+    expect(alloc, tokens, b")")?;
+    let body = block(alloc, tokens, DEPTH)?;
+    Ok(Function::Partition { name, key, body })
+}

@@ -1,0 +1,17 @@
+ghost use Rattle.function_language.specs.Printing.{PrintIsReadAgain};
+ghost use Rattle.function_language.specs.Texts.{FaultIsOfNoTree, IsOfOneTree, only_functions_pieces};
+
+/// A text is that of one list of functions.
+pub fn a_text_is_of_one_tree()
+    ensures { IsOfOneTree only_functions_pieces }
+{}
+
+/// A text with a fault is that of no functions, and its fault is in one line.
+pub fn a_fault_is_of_no_tree()
+    ensures { FaultIsOfNoTree only_functions_pieces }
+{}
+
+/// The print of functions that a text has is a text of these functions, each in a line of its own.
+pub fn what_is_printed_is_read_again()
+    ensures { PrintIsReadAgain }
+{}

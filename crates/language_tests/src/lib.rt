@@ -1,0 +1,5 @@
+//! Texts of programs and of functions, read and printed; a crate for tests alone.
+#![tactic(auto)]
+
+#[cfg(test)]
+mod texts;

@@ -1,0 +1,53 @@
+// Programs and functions as they are written, read and printed.
+use function_language::{SyntaxFault, print_functions, read_functions};
+use loop_program::{ProgramFault, parse_program};
+use program_form::{form_of, form_shape};
+use std::test::Fail;
+
+#[test]
+fn a_program_is_read_as_its_form(rt: HostRuntime) -> Result<(), Fail> {
+    let text =
+        "program all; parts 64; rounds 10000; stop exact; # all\ntable t \"a b.tsv\" (int, int);\ntable u_2 \"~\" (int, int);\nbegin u_2;\nstep { state by same; reduce every; }\nstep { prev by same; table t by same; reduce hop; }\n";
+    let sketch = parse_program(rt.alloc(), text.as_bytes())?;
+    assert_eq!(rt; sketch.start.line, 4);
+    let form = form_of(rt.alloc(), &sketch)?.ok_or("no form")?;
+    let shape = form_shape(rt.alloc(), &form)?;
+    assert_eq!(rt; shape.start, 1);
+    assert_eq!(rt; shape.steps.len(), 2);
+    match parse_program(rt.alloc(), text[1..].as_bytes()) {
+        Err(ProgramFault::At { line, .. }) => assert_eq!(rt; line, 1),
+        _ => assert!(rt; false),
+    }
+    Ok(())
+}
+
+#[test]
+fn a_function_is_printed_and_read_again(rt: HostRuntime) -> Result<(), Fail> {
+    let text =
+        "reduce count ( k : int ; s : (int),\n t: (int) )->(int,int){\nlet n=0; # none\nfor (x) in t { set n = add(n, 1); } emit(add(k, 10), n); }";
+    let printed =
+        "reduce count(k:int;s:(int),t:(int))->(int,int){let n=0;for(x)in t{set n=add(n,1);}emit(add(k,10),n);}\n";
+    let tree = read_functions(rt.alloc(), text.as_bytes())?;
+    let out = print_functions(rt.alloc(), &tree)?;
+    assert!(rt; out.as_slice() == printed.as_bytes());
+    let again = read_functions(rt.alloc(), printed.as_bytes())?;
+    assert!(rt; print_functions(rt.alloc(), &again)?.as_slice() == printed.as_bytes());
+    match read_functions(rt.alloc(), text[..50].as_bytes()) {
+        Err(SyntaxFault::At { line }) => assert_eq!(rt; line, 2),
+        _ => assert!(rt; false),
+    }
+    Ok(())
+}
+
+#[test]
+fn many_statements_are_printed_and_read_again(rt: HostRuntime) -> Result<(), Fail> {
+    let mut text = Vec::from_slice(rt.alloc(), b"partition f(k:int){")?;
+    for _statement in 0..100_000 {
+        text.extend_from_slice(b"give(1);")?;
+    }
+    text.extend_from_slice(b"}\n")?;
+    let tree = read_functions(rt.alloc(), text.as_slice())?;
+    let out = print_functions(rt.alloc(), &tree)?;
+    assert!(rt; out.as_slice() == text.as_slice());
+    Ok(())
+}

@@ -1,0 +1,5 @@
+use Rattle.loop_program.proofs.Programs.{one_wrong}
+use Rattle.loop_program.proofs.laws.one_thing_is_wrong.Goals as goal
+
+pub returns : goal.returns
+returns c = one_wrong

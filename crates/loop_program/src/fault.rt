@@ -1,0 +1,19 @@
+use thiserror::Error;
+
+/// What is wrong with a program.
+#[derive(Clone, Copy, Debug, Error)]
+pub enum What {
+    #[error("syntax")]
+    Syntax,
+    #[error("limit")]
+    Limit,
+}
+
+/// Why a text is refused as a program: what is wrong in which line, or want of memory.
+#[derive(Clone, Copy, Debug, Error)]
+pub enum ProgramFault {
+    #[error("line {line}: {what}")]
+    At { line: u64, what: What },
+    #[error("memory")]
+    Memory,
+}
