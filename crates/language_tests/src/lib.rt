@@ -3,3 +3,6 @@
 
 #[cfg(test)]
 mod texts;
+mod vectors;
+
+pub use vectors::worked_tokens;
