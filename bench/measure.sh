@@ -1,23 +1,23 @@
 # Read by the scripts run.sh of the benches, each with the words that it was called with. It takes the
-# folder $here of the bench and its $programs, makes the folder $work with the programs in it, and adds
-# haloop to them where it is built.
+# folder $here of the bench, its $programs and the name of a program $crate. It makes the folder $work with
+# the programs in it, and adds the program of the crate to them where it is built, as $built.
 
-haloop=${1:-$here/../../crates/haloop/out/haloop}
+built=${1:-$here/../../crates/$crate/out/$crate}
 
 work=$(mktemp -d)
 trap 'rm -rf "$work"' EXIT
 trap 'exit 1' HUP INT TERM
 
-for source in generate $programs; do
-    rustc -O --edition 2021 -o "$work/$source" "$here/$source.rs"
+for source in "$here"/*.rs; do
+    rustc -O --edition 2021 -o "$work/$(basename "$source" .rs)" "$source"
 done
 
-if [ -f "$haloop" ] && [ -x "$haloop" ]; then
+if [ -f "$built" ] && [ -x "$built" ]; then
     # Every run has a folder of its own, so the path must hold from any folder.
-    haloop=$(cd "$(dirname "$haloop")" && pwd)/$(basename "$haloop")
-    programs="$programs haloop"
+    built=$(cd "$(dirname "$built")" && pwd)/$(basename "$built")
+    programs="$programs $crate"
 else
-    echo "run.sh: no program at $haloop, so haloop is skipped" >&2
+    echo "run.sh: no program at $built, so $crate is skipped" >&2
 fi
 
 # measure COMMAND...: runs it, keeps what it says in the file said, and prints

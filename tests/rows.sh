@@ -316,7 +316,9 @@ for number in 1 2 3 4 5 6 7; do
     wrong_form "a byte above 0x7F at line $number" "$number" "$number" "\0303\0251$line\n"
 done
 free_form 'no blank before a mark' 7 'step{state by same;reduce least;}\n'
-refused_form 'the line of the table twice' 5 "${form_lines[4]}\n${form_lines[4]}\n"
+row 'program: the line of the table twice'
+form 5 "${form_lines[4]}\n${form_lines[4]}\n"
+wrong 6 double-name
 
 name_31=a_1234567890_1234567890_1234567
 name_32=${name_31}8
@@ -459,7 +461,7 @@ with_functions() {
     form 6 "$1${form_lines[5]}\n"
 }
 
-# Each function that the grammar has; the program is then of another form.
+# Each function that the grammar has, with names and kinds that are right; the program is then of another form.
 while IFS='|' read -r name text; do
     row "function: $name"
     with_functions "$text\n"
@@ -471,16 +473,17 @@ a reduce|reduce f(k: int; a: (int), b: ()) -> (int, int) { for (x) in a { emit(k
 a distance|distance f(k: int; a: (int), b: (int)) { give(1); }
 a partition|partition f(k: text) { give(len(k)); }
 no statements|map f(k: int) -> () { }
-every statement|map f(k: int) -> (int) { let a = 1; set a = add(a, 2); if (a) { emit(a); } else { emit(k); } for () in s { } give(a); }
+every statement but give|reduce f(k: int; s: ()) -> (int) { let a = 1; set a = add(a, 2); if (a) { emit(a); } else { emit(k); } for () in s { } }
+a give in an if|distance f(k: text; a: (int), b: (int)) { for (x) in a { if (gt(x, 0)) { give(x); } } }
 an if without else|map f(k: int) -> (int) { if (k) { } emit(k); }
 nested calls|map f(k: int) -> (int) { emit(add(mul(k, k), round)); }
-a call of nothing|map f(k: int) -> (int) { emit(f()); }
-an emit of nothing|map f(k: int) -> (int) { emit(); }
-texts|map f(k: int) -> (text) { emit("a\\\\\\"b", ""); }
+an emit of nothing|map f(k: int) -> () { emit(); }
+texts|map f(k: int) -> (text, text) { emit("a\\\\\\"b", ""); }
 the least number|map f(k: int) -> (int) { emit(-9223372036854775808); }
 the greatest number|map f(k: int) -> (int) { emit(9223372036854775807); }
 a name that only begins with a reserved word|map lets(if1: int) -> (int) { let emits = if1; emit(emits); }
-two functions of one name|map f(k: int) -> (int) { emit(k); } map f(k: int) -> (int) { emit(k); }
+a name again behind its block|map f(k: int) -> (int) { if (k) { let a = k; } else { let a = "a"; } let a = 2; emit(a); }
+the round in a partition|partition f(k: int) { give(round); }
 END
 
 # Each function that has a fault of syntax in its third line, which is line 8 of the program.
@@ -517,6 +520,50 @@ a text that is not ended|map f(k: int) -> (int) { emit(\n\n"k); }
 a step in place of a function|map f(k: int) -> (int) { emit(k); }\n\nstep { state by same; reduce least; }
 END
 
+# Each function with a first fault of names or kinds in its third line, which is line 8 of the program.
+while IFS='|' read -r what name text; do
+    row "function: $what: $name"
+    with_functions "$text\n"
+    wrong 8 "$what"
+done <<'END'
+double-name|a parameter twice|map f(k: int,\n\nk: int) -> (int) { emit(k); }
+double-name|a stream with the name of the key|reduce f(k: int;\n\nk: (int)) -> (int) { emit(k); }
+double-name|a let with the name of a parameter|map f(k: int) -> (int) {\n\nlet k = 1; }
+double-name|a loop with one name twice|reduce f(k: int; s: (int, int)) -> (int) { for (x,\n\nx) in s { } }
+double-name|two functions of one name|map f(k: int) -> (int) { emit(k); }\n\npartition f(k: int) { }
+double-name|a predefined name|map f(k: int) -> (int) { emit(k); }\n\nmap hop(k: int) -> (int) { emit(k); }
+unknown-name|an expression|map f(k: int) -> (int) { emit(\n\nv); }
+unknown-name|a stream as an expression|reduce f(k: int; s: (int)) -> (int) { emit(\n\ns); }
+unknown-name|an operation|map f(k: int) -> (int) { emit(\n\nf(k)); }
+unknown-name|the round in a distance|distance f(k: int; a: (int), b: (int)) { give(\n\nround); }
+unknown-name|a set of a parameter|map f(k: int) -> (int) {\n\nset k = 1; }
+unknown-name|a variable behind its block|map f(k: int) -> (int) { if (k) { let a = 1; }\n\nemit(a); }
+wrong-count|two arguments for one|map f(k: int) -> (int) { emit(\n\nnot(k, k)); }
+wrong-kind|an argument|map f(k: int) -> (int) { emit(add(k,\n\n"a")); }
+wrong-kind|two kinds compared|map f(k: int) -> (int) { emit(eq("a",\n\nk)); }
+wrong-kind|a condition|map f(k: int) -> (int) { if (\n\n"a") { } }
+wrong-kind|a set|map f(k: int) -> (int) { let a = 1; set a =\n\n"a"; }
+wrong-kind|a give|partition f(k: text) { give(\n\nk); }
+emit-mismatch|an emit in a distance|distance f(k: int; a: (int), b: (int)) {\n\nemit(k); }
+emit-mismatch|a give in a map|map f(k: int) -> (int) {\n\ngive(k); }
+emit-mismatch|a number of arguments|map f(k: int) -> (int) {\n\nemit(k, k); }
+emit-mismatch|a kind|map f(k: int) -> (int, text) { emit(k,\n\nk); }
+stream-mismatch|no such stream|reduce f(k: int; s: (int)) -> (int) { for (x) in\n\nt { } }
+stream-mismatch|a name too many|reduce f(k: int; s: (int)) -> (int) { for (x, y) in\n\ns { } }
+END
+
+row 'function: wrong-kind in line 12, whatever the limits'
+form 2 'parts 65;\n' 6 'map f(k: int) -> (int, text) {\n\n\n\n\n\nemit(k, cat(1, "a"));\n}\nbegin t;\n'
+wrong 12 wrong-kind
+
+row 'function: two tables of one name before the functions'
+form 5 "${form_lines[4]}\n\n${form_lines[4]}\nmap f(k: int) -> (int) { emit(v); }\n"
+wrong 7 double-name
+
+row 'function: a fault of syntax before one of kinds'
+with_functions 'map f(k: int) -> (int) { emit(v); }\n\n?'
+wrong 8 syntax
+
 # nested NUMBER: so many blocks in one another in a map, the last of which opens in line 7.
 nested() {
     printf 'map f(k: int) -> (int) %s\\n{%s}\\n' "$(repeated $(($1 - 1)) '{ if (k) ')" "$(repeated $(($1 - 1)) ' }')"
@@ -524,7 +571,7 @@ nested() {
 
 # called NUMBER: so many calls and one block around them in a map; the `(` of the last stands in line 7.
 called() {
-    printf 'map f(k: int) -> (int) { emit(%sg\\n(k)%s); }\\n' "$(repeated $(($1 - 1)) 'g(')" "$(repeated $(($1 - 1)) ')')"
+    printf 'map f(k: int) -> (int) { emit(%snot\\n(k)%s); }\\n' "$(repeated $(($1 - 1)) 'not(')" "$(repeated $(($1 - 1)) ')')"
 }
 
 # repeated NUMBER TEXT
@@ -572,7 +619,7 @@ mapfile -t tokens < <(
 program p ; parts 2 ; rounds 3 ; stop below 4 by d ; cache reducer_input ; cache mapper_input ;
 table t "t.tsv" (int, text) ; table u "u.tsv" () ;
 map m (k: int, v: text) -> (int) { let a = add(1, round); if (a) { set a = -1; } else { emit(k); } }
-reduce r (k: int; s: (int), o: ()) -> () { for (x) in s { emit(x, "y"); } for () in o { } }
+reduce r (k: int; s: (int), o: ()) -> (int, text) { for (x) in s { emit(x, "y"); } for () in o { } }
 distance d (k: int; a: (int), b: (int)) { give(1); }
 partition q (k: int) { give(0); }
 begin t ; step { state by m ; table u round 2 by same ; reduce r ; partition q ; }
@@ -1053,7 +1100,6 @@ rounds 10001|3|rounds 10001;
 rounds above 32 bits|3|rounds 4294967316;
 a cache|4|stop exact;\ncache reducer_input;
 the caches of the whole program|4|stop exact;\ncache reducer_input;\ncache reducer_output;
-two tables of one name|6|table links "links.tsv" (int, int);\ntable start "links.tsv" (int, int);
 another table at the beginning|7|begin stars;
 another table in a step|8|step { state by same; table link by same; reduce hop; }
 a table in one round|8|step { state by same; table links round 1 by same; reduce hop; }
@@ -1079,6 +1125,10 @@ the state in the second step|9|step { state by same; table start by same; reduce
 the state behind the step before|9|step { prev by same; state by same; reduce least; }
 a table in place of the state|8|step { table start by same; table links by same; reduce hop; }
 END
+
+    hops_row 'two tables of one name'
+    hops 6 'table links "links.tsv" (int, int);\ntable start "links.tsv" (int, int);\n'
+    wrong 7 double-name
 
     free_hops 'no blank between sources' 8 'step { state by same;table links by same; reduce hop; }\n'
     free_hops 'two blanks between sources' 8 'step { state by same;  table links by same; reduce hop; }\n'
@@ -1169,6 +1219,9 @@ diff -r examples/hops/expected out >/dev/null || is_wrong 'the part files of run
 call plain examples/hops/reports.hal plain
 wants 0 'rounds 5\nend fixpoint\n'
 diff -r examples/hops/expected plain >/dev/null || is_wrong 'the part files of plain are not the expected ones'
+
+row 'the examples of the language are tested'
+(cd "$top" && sh tests/examples.sh >/dev/null) || is_wrong 'tests/examples.sh finds one that is not'
 
 end_row
 echo "$passed passed, $failed failed"

@@ -7,6 +7,7 @@ set -eu
 
 here=$(cd "$(dirname "$0")" && pwd)
 programs="inline"
+crate=haloop
 . "$here/../measure.sh"
 
 # inline.rs has the same program as data.
@@ -33,7 +34,7 @@ for keys in 25000 250000; do
             cd "$work/run"
             ln ../start.tsv ../links.tsv ../program .
             case $program in
-                haloop) set -- "$haloop" plain program out ;;
+                haloop) set -- "$built" plain program out ;;
                 *) set -- "../$program" start.tsv links.tsv out ;;
             esac
             figures=$(measure "$@") || {

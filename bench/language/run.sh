@@ -6,6 +6,7 @@ set -eu
 
 here=$(cd "$(dirname "$0")" && pwd)
 programs="plain"
+crate=haloop
 . "$here/../measure.sh"
 
 cd "$work"
@@ -18,7 +19,7 @@ run='"$@"; [ $? -eq 12 ]'
 for _ in 1 2 3 4 5 6 7 8 9 10; do
     for program in $programs; do
         case $program in
-            haloop) set -- "$haloop" plain program out ;;
+            haloop) set -- "$built" plain program out ;;
             *) set -- "./$program" program ;;
         esac
         figures=$(measure sh -c "$run" sh "$@") || {

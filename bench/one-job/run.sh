@@ -6,6 +6,7 @@ set -eu
 
 here=$(cd "$(dirname "$0")" && pwd)
 programs="straightforward inline"
+crate=haloop
 . "$here/../measure.sh"
 
 cat >"$work/program" <<'END'
@@ -29,7 +30,7 @@ for records in 1000000 4000000; do
             cd "$work/run"
             ln ../table.tsv ../program ../schedule .
             case $program in
-                haloop) set -- "$haloop" run program schedule out ;;
+                haloop) set -- "$built" run program schedule out ;;
                 *) set -- "../$program" table.tsv out ;;
             esac
             figures=$(measure "$@") || {

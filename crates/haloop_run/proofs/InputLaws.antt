@@ -14,8 +14,8 @@ use Rattle.program_form.specs.declared.form.Form.{Form}
 use Rattle.program_form.specs.declared.form.TableForm.{TableForm}
 use Rattle.loop_program.specs.declared.fault.What.{What}
 use Rattle.loop_program.specs.declared.fault.ProgramFault.TheVariants.{At as WrongAt}
-use Rattle.loop_program.specs.declared.sketch.Sketch.{Sketch}
-use Rattle.loop_program.specs.Programs.{IsJustProgram, IsProgramText, IsRefusedBy}
+use Rattle.loop_program.specs.declared.sketch.TypedSketch.{TypedSketch}
+use Rattle.loop_program.specs.Programs.{IsJustTyped, IsTypedText, IsRefusedBy}
 use Rattle.program_form.specs.Forms.{IsFormOf}
 use Rattle.program_form.specs.Shapes.{pairs}
 use Rattle.haloop_run.specs.declared.refusal.Refusal.{Refusal}
@@ -115,29 +115,29 @@ module _ (files : FileMap) (asked : Asked) where
   abbrev ProgramAt : Option (List ℕ) → Outcome → Type 0
   ProgramAt there it = ProgramComesTo (AfterForm it) asked.program there it
 
-  only_wrong : (text : List ℕ) (line : ℕ) (what : What) (other : Outcome) → ((sketch : Sketch) → IsProgramText text sketch → ⊥) → ProgramAt (Some text) other → status_of other ≡ 2
+  only_wrong : (text : List ℕ) (line : ℕ) (what : What) (other : Outcome) → ((sketch : TypedSketch) → IsTypedText text sketch → ⊥) → ProgramAt (Some text) other → status_of other ≡ 2
   only_wrong text line what other n (inl c) = absurd (n c.0 c.1)
   only_wrong text line what other n (inr c) = ap status_of c.3
 
-  abbrev AfterSketch : Outcome → Sketch → Type 0
+  abbrev AfterSketch : Outcome → TypedSketch → Type 0
   AfterSketch it sketch = SketchComesTo (AfterForm it) sketch it
 
   -- what the program's text comes to is what its one program comes to
-  only_sketch : (text : List ℕ) (sketch : Sketch) (it other : Outcome) → IsJustProgram text sketch → Judged (λ o. AfterSketch o sketch) it → ProgramAt (Some text) other → status_of other ≡ status_of it
-  only_sketch text sketch it other p j (inl c) = j.only other (subst (λ (s : Sketch). AfterSketch other s) (p.only c.0 c.1) c.2)
+  only_sketch : (text : List ℕ) (sketch : TypedSketch) (it other : Outcome) → IsJustTyped text sketch → Judged (λ o. AfterSketch o sketch) it → ProgramAt (Some text) other → status_of other ≡ status_of it
+  only_sketch text sketch it other p j (inl c) = j.only other (subst (λ (s : TypedSketch). AfterSketch other s) (p.only c.0 c.1) c.2)
   only_sketch text sketch it other p j (inr c) = absurd (p.right c.0 c.1 c.2)
 
-  right_sketch : (text : List ℕ) (sketch : Sketch) (it : Outcome) → map.get files asked.program ≡ Some text → IsJustProgram text sketch → Judged (λ o. AfterSketch o sketch) it → Judged (ComesTo files asked) it
+  right_sketch : (text : List ℕ) (sketch : TypedSketch) (it : Outcome) → map.get files asked.program ≡ Some text → IsJustTyped text sketch → Judged (λ o. AfterSketch o sketch) it → Judged (ComesTo files asked) it
   right_sketch text sketch it there p j = record {
     comes = subst (λ (o : Option (List ℕ)). ProgramAt o it) (sym there) (inl (sketch, p.is, j.comes));
     only = λ other c. only_sketch text sketch it other p j (subst (λ (o : Option (List ℕ)). ProgramAt o other) there c);
   }
 
-  only_unbuilt : (sketch : Sketch) (other : Outcome) → ((form : Form) → IsFormOf sketch form → ⊥) → AfterSketch other sketch → status_of other ≡ 12
+  only_unbuilt : (sketch : TypedSketch) (other : Outcome) → ((form : Form) → IsFormOf sketch form → ⊥) → AfterSketch other sketch → status_of other ≡ 12
   only_unbuilt sketch other n (inl c) = absurd (n c.0 c.1)
   only_unbuilt sketch other n (inr c) = ap status_of c.1
 
-  unbuilt : (sketch : Sketch) → ((form : Form) → IsFormOf sketch form → ⊥) → Judged (λ o. AfterSketch o sketch) not_built
+  unbuilt : (sketch : TypedSketch) → ((form : Form) → IsFormOf sketch form → ⊥) → Judged (λ o. AfterSketch o sketch) not_built
   unbuilt sketch n = record { comes = inr (n, refl); only = λ other c. only_unbuilt sketch other n c }
 
   pub no_form : (it : Outcome) → NoForm files asked.program it → Judged (ComesTo files asked) it
@@ -151,7 +151,7 @@ module _ (files : FileMap) (asked : Asked) where
   }
   no_form it (inr (inr a)) = subst (λ (o : Outcome). Judged (ComesTo files asked) o) (sym a.1) (right_sketch a.0.text a.0.sketch not_built a.0.there a.0.program (unbuilt a.0.sketch a.0.none))
 
-  only_form : (sketch : Sketch) (form : Form) (it other : Outcome) → IsFormOf sketch form → Judged (λ o. AfterForm o form) it → AfterSketch other sketch → status_of other ≡ status_of it
+  only_form : (sketch : TypedSketch) (form : Form) (it other : Outcome) → IsFormOf sketch form → Judged (λ o. AfterForm o form) it → AfterSketch other sketch → status_of other ≡ status_of it
   only_form sketch form it other is j (inl c) = j.only other (subst (λ (f : Form). AfterForm other f) (some_same (sym c.1.read ∙ is.read)) c.2)
   only_form sketch form it other is j (inr c) = absurd (c.0 form is)
 
@@ -182,7 +182,7 @@ refused_more P Q f f' a a' ff aa pq (refusal.BadTable name what) r = pq (bad_tab
 refused_more P Q f f' a a' ff aa pq refusal.Device r = ff r
 refused_more P Q f f' a a' ff aa pq refusal.Memory r = tt
 
-pub has_form : (told : Option FileMap) (name text : List ℕ) (form : Form) → IfSome told (λ files. map.get files name ≡ Some text) → (sketch : Sketch) × IsJustProgram text sketch × IsFormOf sketch form → IfSome told (λ files. HasForm files name form)
+pub has_form : (told : Option FileMap) (name text : List ℕ) (form : Form) → IfSome told (λ files. map.get files name ≡ Some text) → (sketch : TypedSketch) × IsJustTyped text sketch × IsFormOf sketch form → IfSome told (λ files. HasForm files name form)
 has_form None name text form there h = tt
 has_form (Some files) name text form there h = record { text = text; there = there; sketch = h.0; program = h.1; is_form = h.2 }
 
@@ -190,7 +190,7 @@ wrong_there : (told : Option FileMap) (name text : List ℕ) (line : ℕ) (what 
 wrong_there None name text line what there r = tt
 wrong_there (Some files) name text line what there r = inr (inl (text, there, line, what, r, refl))
 
-unbuilt_there : (told : Option FileMap) (name text : List ℕ) → IfSome told (λ files. map.get files name ≡ Some text) → (sketch : Sketch) × IsJustProgram text sketch × ((form : Form) → IsFormOf sketch form → ⊥) → IfSome told (λ files. NoForm files name not_built)
+unbuilt_there : (told : Option FileMap) (name text : List ℕ) → IfSome told (λ files. map.get files name ≡ Some text) → (sketch : TypedSketch) × IsJustTyped text sketch × ((form : Form) → IsFormOf sketch form → ⊥) → IfSome told (λ files. NoForm files name not_built)
 unbuilt_there None name text there h = tt
 unbuilt_there (Some files) name text there h = inr (inr (record { text = text; there = there; sketch = h.0; program = h.1; none = h.2 }, refl))
 

@@ -10,8 +10,8 @@ use Rattle.hal_outside.specs.Told.{FileMap}
 use Rattle.program_form.specs.declared.form.Form.{Form}
 use Rattle.program_form.specs.declared.form.TableForm.{TableForm}
 use Rattle.loop_program.specs.declared.fault.What.{What}
-use Rattle.loop_program.specs.declared.sketch.Sketch.{Sketch}
-use Rattle.loop_program.specs.Programs.{HasWrong, IsProgramText}
+use Rattle.loop_program.specs.declared.sketch.TypedSketch.{TypedSketch}
+use Rattle.loop_program.specs.Programs.{HasWrong, IsTypedText}
 use Rattle.program_form.specs.Forms.{IsFormOf}
 use Rattle.program_form.specs.Shapes.{pairs}
 use Rattle.haloop_run.specs.Words.{Asked}
@@ -52,16 +52,16 @@ AskedScheduleComesTo rest files None it = rest
 AskedScheduleComesTo rest files (Some name) it = ScheduleComesTo rest name (map.get files name) it
 
 -- a program is of the form, and then it is as the rest says
-abbrev pub SketchComesTo : (Form → Type 0) → Sketch → Outcome → Type 0
+abbrev pub SketchComesTo : (Form → Type 0) → TypedSketch → Outcome → Type 0
 SketchComesTo rest sketch it =
     ((form : Form) × IsFormOf sketch form × rest form)
     ⊎ (((form : Form) → IsFormOf sketch form → ⊥) × (it ≡ not_built))
 
--- the program's file, if it is there, has the text of a program, and then it is as that comes to, or this is wrong with it
+-- the program's file, if it is there, has the text of a typed program, and then it is as that comes to, or this is wrong with it
 abbrev pub ProgramComesTo : (Form → Type 0) → List ℕ → Option (List ℕ) → Outcome → Type 0
 ProgramComesTo rest name None it = it ≡ absent name
 ProgramComesTo rest name (Some text) it =
-    ((sketch : Sketch) × IsProgramText text sketch × SketchComesTo rest sketch it)
+    ((typed : TypedSketch) × IsTypedText text typed × SketchComesTo rest typed it)
     ⊎ ((line : ℕ) × (what : What) × HasWrong text line what × (it ≡ bad_program line what))
 
 -- what the input comes to

@@ -11,7 +11,7 @@ use Rattle.hal_base.specs.declared.table.TableFault.TheVariants.{Line, TooMany}
 use Rattle.hal_base.specs.declared.table.TableFault.TheVariants as table
 use Rattle.hal_outside.specs.Told.{FileMap}
 use Rattle.loop_program.specs.declared.fault.What.{What}
-use Rattle.loop_program.specs.declared.fault.What.TheVariants.{Syntax, Limit}
+use Rattle.loop_program.specs.declared.fault.What.TheVariants.{Syntax, Limit, WrongKind, UnknownName, WrongCount, EmitMismatch, DoubleName, StreamMismatch}
 use Rattle.plain_job.specs.Ends.{IsChain, Ending, ending_text}
 use Rattle.program_form.specs.declared.form.Form.{Form}
 use Rattle.program_form.specs.Shapes.{meaning_of, shape_of}
@@ -85,6 +85,12 @@ absent_line name = codes "error: file " ++ name ++ codes " absent\n"
 abbrev pub what_text : What → List ℕ
 what_text Syntax = codes "syntax"
 what_text Limit = codes "limit"
+what_text WrongKind = codes "wrong-kind"
+what_text UnknownName = codes "unknown-name"
+what_text WrongCount = codes "wrong-count"
+what_text EmitMismatch = codes "emit-mismatch"
+what_text DoubleName = codes "double-name"
+what_text StreamMismatch = codes "stream-mismatch"
 
 abbrev pub program_line : ℕ → What → List ℕ
 program_line line what = codes "error: program line " ++ decimal line ++ codes ": " ++ what_text what ++ codes "\n"

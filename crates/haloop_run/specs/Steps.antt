@@ -12,8 +12,8 @@ use Rattle.program_form.specs.declared.form.Form.{Form}
 use Rattle.program_form.specs.declared.form.TableForm.{TableForm}
 use Rattle.loop_program.specs.declared.fault.What.{What}
 use Rattle.loop_program.specs.declared.fault.ProgramFault.TheVariants.{At}
-use Rattle.loop_program.specs.declared.sketch.Sketch.{Sketch}
-use Rattle.loop_program.specs.Programs.{IsJustProgram, IsRefusedBy}
+use Rattle.loop_program.specs.declared.sketch.TypedSketch.{TypedSketch}
+use Rattle.loop_program.specs.Programs.{IsJustTyped, IsRefusedBy}
 use Rattle.program_form.specs.Forms.{IsFormOf}
 use Rattle.program_form.specs.Shapes.{pairs}
 use Rattle.haloop_run.specs.declared.refusal.Refusal.{Refusal}
@@ -29,23 +29,23 @@ pub record Judged (Stage : Outcome → Type 0) (it : Outcome) : Type 0 where
   pub comes : Stage it
   pub only : (other : Outcome) → Stage other → status_of other ≡ status_of it
 
--- the file of this name has the text of a program, which is of this form
+-- the file of this name has the text of a typed program, which is of this form
 pub record HasForm (files : FileMap) (name : List ℕ) (form : Form) : Type 0 where
   pub text : List ℕ
   pub there : map.get files name ≡ Some text
-  pub sketch : Sketch
-  pub program : IsJustProgram text sketch
+  pub sketch : TypedSketch
+  pub program : IsJustTyped text sketch
   pub is_form : IsFormOf sketch form
 
--- the file of this name has the text of a program, which is of no form that is built
+-- the file of this name has the text of a typed program, which is of no form that is built
 pub record HasOtherForm (files : FileMap) (name : List ℕ) : Type 0 where
   pub text : List ℕ
   pub there : map.get files name ≡ Some text
-  pub sketch : Sketch
-  pub program : IsJustProgram text sketch
+  pub sketch : TypedSketch
+  pub program : IsJustTyped text sketch
   pub none : (form : Form) → IsFormOf sketch form → ⊥
 
--- the file of this name is not there, or something is wrong with its text, or it has the text of a program of no form that is built
+-- the file of this name is not there, or something is wrong with its text, or it has the text of a typed program of no form that is built
 abbrev pub NoForm : FileMap → List ℕ → Outcome → Type 0
 NoForm files name it =
     ((map.get files name ≡ None) × (it ≡ absent name))
@@ -57,7 +57,7 @@ abbrev pub TextRefused : Refusal → List ℕ → Type 0
 TextRefused refusal.Usage text = ⊥
 TextRefused (refusal.Absent name) text = ⊥
 TextRefused (refusal.BadProgram line what) text = IsRefusedBy text (At line what)
-TextRefused refusal.NotBuilt text = (sketch : Sketch) × IsJustProgram text sketch × ((form : Form) → IsFormOf sketch form → ⊥)
+TextRefused refusal.NotBuilt text = (sketch : TypedSketch) × IsJustTyped text sketch × ((form : Form) → IsFormOf sketch form → ⊥)
 TextRefused (refusal.BadTable name what) text = ⊥
 TextRefused refusal.Device text = ⊥
 TextRefused refusal.Memory text = Unit {0}

@@ -6,8 +6,8 @@ ghost use Rattle.hal_outside.specs.Told.{Rose};
 ghost use Rattle.program_form.specs.Forms.{KeepsRules};
 ghost use Rattle.program_form.specs.Shapes as shapes;
 ghost use Rattle.program_form.specs.Forms.{IsFormOf};
-ghost use Rattle.loop_program.specs.declared.sketch.Sketch.{Sketch as Program};
-ghost use Rattle.loop_program.specs.Programs.{IsJustProgram};
+ghost use Rattle.loop_program.specs.declared.sketch.TypedSketch.{TypedSketch as Program};
+ghost use Rattle.loop_program.specs.Programs.{IsJustTyped};
 ghost use Rattle.haloop_run.specs.Inputs as inputs;
 ghost use Rattle.haloop_run.specs.Inputs.{ComesTo, TablesComeTo};
 ghost use Rattle.haloop_run.specs.Steps.{AbsentOf, BadTableOf, BytesRefused, HasForm, HasRows, HasSchedule, Judged, NoForm, NoRows, NoSchedule, OtherSchedule, Refused, TextRefused};
@@ -17,7 +17,7 @@ use crate::refusal::Refusal;
 use crate::words::Command;
 use hal_base::{CopyIn, Items, Memory, Records, TableFault, Tables, read_table};
 use hal_outside::{FileFault, Files};
-use loop_program::{ProgramFault, Sketch, parse_program};
+use loop_program::{ProgramFault, TypedSketch, typed_program};
 use program_form::{Form, TableForm, form_of, pairs};
 use std::alloc::Global;
 
@@ -67,22 +67,22 @@ fn read_program<F: Files>(alloc: Global, name: &str, files: &mut F) -> Result<Fo
 /// The program of this text, if it is of the form that is built.
 fn form_in(alloc: Global, text: &[u8]) -> Result<Form, Refusal>
     ensures good { IfOk result KeepsRules }
-    ensures found { IfOk result (λ form. (sketch : Program) × IsJustProgram text.now sketch × IsFormOf sketch form) }
+    ensures found { IfOk result (λ form. (sketch : Program) × IsJustTyped text.now sketch × IsFormOf sketch form) }
     ensures refused { IfErr result (λ refusal. TextRefused refusal text.now) }
 {
     let sketch = sketch_in(alloc, text)?;
-    match form_of(alloc, &sketch)? {
+    match form_of(alloc, sketch)? {
         Some(form) => Ok(form),
         None => Err(Refusal::NotBuilt),
     }
 }
 
 /// The program of this text.
-fn sketch_in(alloc: Global, text: &[u8]) -> Result<Sketch, Refusal>
-    ensures found { IfOk result (IsJustProgram text.now) }
+fn sketch_in(alloc: Global, text: &[u8]) -> Result<TypedSketch, Refusal>
+    ensures found { IfOk result (IsJustTyped text.now) }
     ensures refused { IfErr result (λ refusal. TextRefused refusal text.now) }
 {
-    match parse_program(alloc, text) {
+    match typed_program(alloc, text) {
         Ok(sketch) => Ok(sketch),
         Err(ProgramFault::At { line, what }) => Err(Refusal::BadProgram { line, what }),
         Err(ProgramFault::Memory) => Err(Refusal::Memory),

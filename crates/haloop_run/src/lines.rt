@@ -56,6 +56,12 @@ fn what_word(what: What) -> &'static [u8]
     match what {
         What::Syntax => b"syntax",
         What::Limit => b"limit",
+        What::WrongKind => b"wrong-kind",
+        What::UnknownName => b"unknown-name",
+        What::WrongCount => b"wrong-count",
+        What::EmitMismatch => b"emit-mismatch",
+        What::DoubleName => b"double-name",
+        What::StreamMismatch => b"stream-mismatch",
     }
 }
 

@@ -51,6 +51,6 @@ fn chain_of(alloc: Global, input: Accepted) -> Result<PlainChain, Memory>
     ensures { IfOk result (IsPlainChain (meaning_of input.form) (shape_of input.form) input.tables) }
 {
     let shape = form_shape(alloc, &input.form)?;
-    let functions = form_functions(alloc, &input.form)?;
+    let functions = form_functions(alloc, input.form)?;
     chain_in_memory(alloc, &functions, &shape, input.tables)
 }

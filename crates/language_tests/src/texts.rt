@@ -1,6 +1,6 @@
 // Programs and functions as they are written, read and printed.
 use function_language::{SyntaxFault, print_functions, read_functions};
-use loop_program::{ProgramFault, parse_program};
+use loop_program::{ProgramFault, What, parse_program, typed_program};
 use program_form::{form_of, form_shape};
 use std::test::Fail;
 
@@ -10,12 +10,40 @@ fn a_program_is_read_as_its_form(rt: HostRuntime) -> Result<(), Fail> {
         "program all; parts 64; rounds 10000; stop exact; # all\ntable t \"a b.tsv\" (int, int);\ntable u_2 \"~\" (int, int);\nbegin u_2;\nstep { state by same; reduce every; }\nstep { prev by same; table t by same; reduce hop; }\n";
     let sketch = parse_program(rt.alloc(), text.as_bytes())?;
     assert_eq!(rt; sketch.start.line, 4);
-    let form = form_of(rt.alloc(), &sketch)?.ok_or("no form")?;
+    let typed = typed_program(rt.alloc(), text.as_bytes())?;
+    let form = form_of(rt.alloc(), typed)?.ok_or("no form")?;
     let shape = form_shape(rt.alloc(), &form)?;
     assert_eq!(rt; shape.start, 1);
     assert_eq!(rt; shape.steps.len(), 2);
     match parse_program(rt.alloc(), text[1..].as_bytes()) {
         Err(ProgramFault::At { line, .. }) => assert_eq!(rt; line, 1),
+        _ => assert!(rt; false),
+    }
+    Ok(())
+}
+
+#[test]
+fn names_and_kinds_are_refused_in_their_lines(rt: HostRuntime) -> Result<(), Fail> {
+    let twice =
+        "program p; parts 1; rounds 1; stop exact;\ntable t \"t.tsv\" (int, int);\ntable t \"u.tsv\" (int, int);\nmap m(k: int) -> (int, int) { emit(j, 1); }\nbegin t;\nstep { state by m; reduce every; }\n";
+    match typed_program(rt.alloc(), twice.as_bytes()) {
+        Err(
+            ProgramFault::At {
+                line,
+                what: What::DoubleName,
+            },
+        ) => assert_eq!(rt; line, 3),
+        _ => assert!(rt; false),
+    }
+    let unknown =
+        "program p; parts 1; rounds 1; stop exact;\ntable t \"t.tsv\" (int, int);\nmap m(k: int) -> (int, int) {\nemit(j, 1); }\nbegin t;\nstep { state by m; reduce every; }\n";
+    match typed_program(rt.alloc(), unknown.as_bytes()) {
+        Err(
+            ProgramFault::At {
+                line,
+                what: What::UnknownName,
+            },
+        ) => assert_eq!(rt; line, 4),
         _ => assert!(rt; false),
     }
     Ok(())

@@ -8,3 +8,4 @@ pub mod Inner
 pub mod Programs
 pub mod Shorter
 pub mod StepHalves
+pub mod TypedTexts

@@ -1,5 +1,5 @@
 -- What the reader of whole programs comes to for the tokens of a text.
-use Rattle.std.proofs.Common.{Err, List, Ok, ℕ, ◌≡◌, ◌≢◌, ◌<◌, ◌≤◌, true, false, refl, sym, ◌∙◌, arith}
+use Rattle.std.proofs.Common.{Err, List, Ok, ℕ, ◌≡◌, ◌≢◌, ◌<◌, ◌≤◌, ◌⊎◌, inl, inr, length, true, false, refl, sym, ◌∙◌, arith}
 use Rattle.program_tokens.specs.Front.{at_end, later, line_of}
 use Rattle.program_tokens.specs.Tokens.{AreTokensOf}
 use Rattle.program_tokens.specs.declared.token.Token.{Token}
@@ -11,8 +11,8 @@ use Rattle.function_language.proofs.Ended.{end_met, end_missed, end_refused, ref
 use Rattle.function_language.proofs.Whole as of_texts
 use Rattle.loop_program.specs.declared.fault.ProgramFault.TheVariants.{At as WrongAt}
 use Rattle.loop_program.specs.declared.fault.What.{What}
-use Rattle.loop_program.specs.declared.fault.What.TheVariants.{Limit, Syntax}
-use Rattle.loop_program.specs.Programs.{HasWrong, IsJustProgram, IsProgramText, IsRefusedBy, OneThingIsWrong, TextIsOfOneProgram}
+use Rattle.loop_program.specs.declared.fault.What.TheVariants.{Limit, Syntax, WrongKind, UnknownName, WrongCount, EmitMismatch, DoubleName, StreamMismatch}
+use Rattle.loop_program.specs.Programs.{IsJustProgram, IsMisspelled, IsNotRead, IsProgramText, TextIsOfOneProgram, most_bytes}
 use Rattle.loop_program.specs.Reading.{program, whole_program}
 use Rattle.loop_program.specs.Spelled.{program_pieces}
 use Rattle.loop_program.specs.declared.sketch.Sketch.{Sketch}
@@ -56,20 +56,41 @@ one_program text some other a b = program_is_one text some other a.1 b.1
 too_long : {n m : ℕ} → n ≤ m → m < n → ⊥
 too_long l g = omega (arith, l, g)
 
-pub one_wrong : OneThingIsWrong
-one_wrong text line other Limit Limit w v = (v.1 ∙ sym w.1, refl)
-one_wrong text line other Limit Syntax w v = absurd (too_long v.0 w.0)
-one_wrong text line other Syntax Limit w v = absurd (too_long w.0 v.0)
-one_wrong text line other Syntax Syntax w v = ((fault_is_one text line w.1).1 other v.1, refl)
+-- a text is too long, or it is not and has a fault of syntax
+abbrev pub Misspelled : List ℕ → ℕ → What → Type 0
+Misspelled text line what =
+    ((what ≡ Limit) × (most_bytes < length text) × (line ≡ 1))
+    ⊎ ((what ≡ Syntax) × (length text ≤ most_bytes) × HasFaultAt program_pieces text line)
 
-not_wrong : (text : List ℕ) (sketch : Sketch) → IsProgramText text sketch → (line : ℕ) (what : What) → HasWrong text line what → ⊥
-not_wrong text sketch p line Limit w = too_long p.0 w.0
-not_wrong text sketch p line Syntax w = (fault_is_one text line w.1).0 sketch p.1
+pub misspelled : (text : List ℕ) (line : ℕ) (what : What) → IsMisspelled text line what → Misspelled text line what
+misspelled text line Limit w = inl (refl, w.0, w.1)
+misspelled text line Syntax w = inr (refl, w.0, w.1)
+misspelled text line WrongKind w = absurd w
+misspelled text line UnknownName w = absurd w
+misspelled text line WrongCount w = absurd w
+misspelled text line EmitMismatch w = absurd w
+misspelled text line DoubleName w = absurd w
+misspelled text line StreamMismatch w = absurd w
+
+-- a text is misspelled in one way, in one line
+pub one_misspelling : (text : List ℕ) (line other : ℕ) (what wrong : What) → Misspelled text line what → Misspelled text other wrong → (other ≡ line) × (wrong ≡ what)
+one_misspelling text line other what wrong (inl w) (inl v) = (v.2 ∙ sym w.2, v.0 ∙ sym w.0)
+one_misspelling text line other what wrong (inl w) (inr v) = absurd (too_long v.1 w.1)
+one_misspelling text line other what wrong (inr w) (inl v) = absurd (too_long w.1 v.1)
+one_misspelling text line other what wrong (inr w) (inr v) = ((fault_is_one text line w.2).1 other v.2, v.0 ∙ sym w.0)
+
+well_spelled : (text : List ℕ) (sketch : Sketch) → IsProgramText text sketch → (line : ℕ) (what : What) → Misspelled text line what → ⊥
+well_spelled text sketch p line what (inl w) = too_long p.0 w.1
+well_spelled text sketch p line what (inr w) = (fault_is_one text line w.2).0 sketch p.1
+
+-- the text of a program is not misspelled
+pub not_misspelled : (text : List ℕ) (sketch : Sketch) → IsProgramText text sketch → (line : ℕ) (what : What) → IsMisspelled text line what → ⊥
+not_misspelled text sketch p line what w = well_spelled text sketch p line what (misspelled text line what w)
 
 -- the program that was read is the only one
 pub just_program : (text : List ℕ) (sketch : Sketch) → IsProgramText text sketch → IsJustProgram text sketch
-just_program text sketch p = record { is = p; only = λ other q. one_program text other sketch q p; right = not_wrong text sketch p }
+just_program text sketch p = record { is = p; only = λ other q. one_program text other sketch q p; right = not_misspelled text sketch p }
 
--- what is wrong refuses the text
-pub wrong_refuses : (text : List ℕ) (line : ℕ) (what : What) → HasWrong text line what → IsRefusedBy text (WrongAt line what)
-wrong_refuses text line what w = (w, λ sketch p. not_wrong text sketch p line what w)
+-- a text that is misspelled is not read
+pub misspelled_refuses : (text : List ℕ) (line : ℕ) (what : What) → IsMisspelled text line what → IsNotRead text (WrongAt line what)
+misspelled_refuses text line what w = (w, λ sketch p. not_misspelled text sketch p line what w)

@@ -7,6 +7,18 @@ pub enum What {
     Syntax,
     #[error("limit")]
     Limit,
+    #[error("wrong-kind")]
+    WrongKind,
+    #[error("unknown-name")]
+    UnknownName,
+    #[error("wrong-count")]
+    WrongCount,
+    #[error("emit-mismatch")]
+    EmitMismatch,
+    #[error("double-name")]
+    DoubleName,
+    #[error("stream-mismatch")]
+    StreamMismatch,
 }
 
 /// Why a text is refused as a program: what is wrong in which line, or want of memory.

@@ -1,6 +1,6 @@
 ghost use Rattle.std.specs.Prelude.{◌≡◌, IfErr, IfOk};
 ghost use Rattle.function_language.specs.Texts.{IsTextOf, Refuses};
-ghost use Rattle.loop_program.specs.Programs.{IsJustProgram, IsRefusedBy};
+ghost use Rattle.loop_program.specs.Programs.{IsJustProgram, IsNotRead};
 ghost use Rattle.loop_program.specs.Spelled.{program_pieces};
 
 use crate::fault::{ProgramFault, What};
@@ -18,7 +18,7 @@ const MOST_BYTES: usize = 1_048_576;
 /// docs/LANGUAGE.md, "Programs".
 pub fn parse_program(alloc: Global, text: &[u8]) -> Result<Sketch, ProgramFault>
     ensures read { IfOk result (IsJustProgram text.now) }
-    ensures refused { IfErr result (IsRefusedBy text.now) }
+    ensures refused { IfErr result (IsNotRead text.now) }
 {
     if text.len() > MOST_BYTES {
         return Err(ProgramFault::At {

@@ -1,6 +1,7 @@
 use function_language::{Ident, Number, Row, Tree};
 use hal_base::Text;
 use sqlite_items::Items;
+use type_checker::Typed;
 
 /// A table of a program, and the file that it is read from. The `line` is that of the file's name.
 #[derive(Drop)]
@@ -60,6 +61,20 @@ pub struct Sketch {
     pub asked: Asked,
     pub tables: TableSketches,
     pub functions: Tree,
+    pub start: Ident,
+    pub steps: StepSketches,
+}
+
+/// A program in which no table has the name of another, and whose functions are checked.
+#[derive(Drop)]
+pub struct TypedSketch {
+    pub name: Ident,
+    pub parts: Number,
+    pub rounds: Number,
+    pub stop: StopSketch,
+    pub asked: Asked,
+    pub tables: TableSketches,
+    pub functions: Typed,
     pub start: Ident,
     pub steps: StepSketches,
 }

@@ -1,3 +1,2 @@
+pub mod Differences
 pub mod Grown
-pub mod MeaningLaws
-pub mod Meanings

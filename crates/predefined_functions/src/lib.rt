@@ -1,11 +1,11 @@
-//! The functions that every program knows, and programs that have no others.
+//! The functions that every program knows.
 #![tactic(auto)]
 
+mod differences;
 mod hops;
 mod least_fields;
-mod predefined;
 mod reduces;
 
+pub use differences::differ;
 pub use hops::push_keyed;
-pub use predefined::{Predefined, Reduce, Reduces};
 pub use reduces::{every, hop, least, same};

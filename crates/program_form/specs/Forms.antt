@@ -8,13 +8,13 @@ use Rattle.function_language.specs.declared.tree.Function.{Function}
 use Rattle.function_language.specs.declared.tree.Ident.{Ident}
 use Rattle.function_language.specs.declared.tree.Number.{Number}
 use Rattle.loop_program.specs.declared.sketch.InputSketch.{InputSketch}
-use Rattle.loop_program.specs.declared.sketch.Sketch.{Sketch}
 use Rattle.loop_program.specs.declared.sketch.StepSketch.{StepSketch}
 use Rattle.loop_program.specs.declared.sketch.StopSketch.{StopSketch}
 use Rattle.loop_program.specs.declared.sketch.StopSketch.TheVariants.{Exact, Below}
 use Rattle.loop_program.specs.declared.sketch.TableSketch.{TableSketch}
-use Rattle.predefined_functions.specs.declared.predefined.Reduce.{Reduce}
-use Rattle.predefined_functions.specs.declared.predefined.Reduce.TheVariants.{Least, Every, Hop}
+use Rattle.loop_program.specs.declared.sketch.TypedSketch.{TypedSketch}
+use Rattle.program_form.specs.declared.form.Reduce.{Reduce}
+use Rattle.program_form.specs.declared.form.Reduce.TheVariants.{Least, Every, Hop}
 use Rattle.program_form.specs.declared.form.TableForm.{TableForm}
 use Rattle.program_form.specs.declared.form.StepForm.{StepForm}
 use Rattle.program_form.specs.declared.form.Form.{Form}
@@ -79,17 +79,17 @@ are_none [] = true
 are_none (function ∷ functions) = false
 
 -- the program stops exactly, asks for no cache and has no functions of its own
-abbrev pub is_plain : Sketch → Bool
+abbrev pub is_plain : TypedSketch → Bool
 is_plain sketch = is_exact sketch.stop && not (sketch.asked.reducer_input || sketch.asked.reducer_output || sketch.asked.mapper_input) && are_none sketch.functions
 
 -- the program without its lines, where all its functions are predefined and it stops exactly
-abbrev pub form_in : Sketch → Option Form
+abbrev pub form_in : TypedSketch → Option Form
 form_in sketch = cond (is_plain sketch) (do
   parts ← count_in 64 sketch.parts.value
   rounds ← count_in 10000 sketch.rounds.value
   tables ← all_in table_in sketch.tables
   steps ← all_in step_in sketch.steps
-  Some (record { name = sketch.name.text; parts = parts; rounds = rounds; tables = tables; start = sketch.start.text; steps = steps })) None
+  Some (record { name = sketch.name.text; parts = parts; rounds = rounds; tables = tables; functions = sketch.functions; start = sketch.start.text; steps = steps })) None
 
 -- from 0x20 to 0x7E, but `"` and `\`
 abbrev pub is_file_byte : ℕ → Bool
@@ -136,6 +136,6 @@ pub record KeepsRules (form : Form) : Type 0 where
   pub steps : AllByRecursion (IsStepForm form.tables) form.steps
 
 -- the program is of the form, and keeps its rules
-pub record IsFormOf (sketch : Sketch) (form : Form) : Type 0 where
+pub record IsFormOf (sketch : TypedSketch) (form : Form) : Type 0 where
   pub read : form_in sketch ≡ Some form
   pub rules : KeepsRules form

@@ -10,7 +10,13 @@ use Rattle.hal_base.specs.declared.shape.Source.{Source}
 use Rattle.hal_base.specs.declared.shape.Step.{Step}
 use Rattle.hal_base.specs.declared.shape.Shape.{Shape}
 use Rattle.hal_base.specs.Meaning.{Meaning}
-use Rattle.predefined_functions.specs.Meanings.{predefined_meaning}
+use Rattle.type_checker.specs.declared.uses.Use.{Use}
+use Rattle.type_checker.specs.declared.uses.Use.TheVariants as a_use
+use Rattle.type_checker.specs.declared.uses.UseStep.{UseStep}
+use Rattle.type_checker.specs.declared.uses.Uses.{Uses}
+use Rattle.function_eval.specs.Meanings as functions
+use Rattle.program_form.specs.declared.form.Reduce.{Reduce}
+use Rattle.program_form.specs.declared.form.Reduce.TheVariants.{Least, Every, Hop}
 use Rattle.program_form.specs.declared.form.TableForm.{TableForm}
 use Rattle.program_form.specs.declared.form.StepForm.{StepForm}
 use Rattle.program_form.specs.declared.form.Form.{Form}
@@ -66,6 +72,20 @@ pub record KnowsTables (shape : Shape) : Type 0 where
   pub start : shape.start < length shape.tables
   pub steps : AllByRecursion (λ (step : Step). AllByRecursion (λ (source : Source). ReadsBelow (length shape.tables) source.from) step.sources) shape.steps
 
+-- the use of a reduce
+abbrev pub used : Reduce → Use
+used Least = a_use.Least
+used Every = a_use.Every
+used Hop = a_use.Hop
+
+-- what a step uses: its maps are all `same`, and its partition is the default
+abbrev pub step_uses : StepForm → UseStep
+step_uses step = record { maps = a_use.Same ∷ map (λ table. a_use.Same) step.tables; reduce = used step.reduce; partition = a_use.Default }
+
+-- what the places of the program use; its distance is the default
+abbrev pub uses_of : Form → Uses
+uses_of form = record { steps = map step_uses form.steps; distance = a_use.Default }
+
 -- what the functions of the program mean
 abbrev pub meaning_of : Form → Meaning
-meaning_of form = predefined_meaning form.parts (map (λ (step : StepForm). step.reduce) form.steps)
+meaning_of form = functions.meaning_of form.functions (uses_of form) form.parts

@@ -4,9 +4,8 @@ ghost use Rattle.program_form.specs.Forms as forms;
 ghost use Rattle.program_form.specs.Forms.{FitsReduce, HasLimits, IsStepForm, KeepsRules, is_file, is_file_byte};
 ghost use Rattle.program_form.specs.declared.form.TableForm.{TableForm as Table};
 
-use crate::form::{Form, Names, StepForm, TableForm};
+use crate::form::{Form, Names, Reduce, StepForm, TableForm};
 use hal_base::Text;
-use predefined_functions::Reduce;
 
 /// Whether the program keeps the rules.
 pub(crate) fn keeps_rules(form: &Form) -> bool

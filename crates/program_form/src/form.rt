@@ -1,5 +1,5 @@
 use hal_base::{Items, Text};
-use predefined_functions::Reduce;
+use type_checker::Typed;
 
 pub type Names = Items<Text>;
 
@@ -10,6 +10,14 @@ pub struct TableForm {
     pub file: Text,
 }
 
+/// A predefined reduce. docs/SEMANTICS.md, "Predefined functions".
+#[derive(Clone, Copy, Debug, PartialEq, Eq)]
+pub enum Reduce {
+    Least,
+    Every,
+    Hop,
+}
+
 /// A step: the names of the tables that it reads besides the state or the output before, and its reduce.
 #[derive(Drop)]
 pub struct StepForm {
@@ -17,14 +25,15 @@ pub struct StepForm {
     pub reduce: Reduce,
 }
 
-/// A program whose functions are all predefined and which stops exactly. `start` is the name of the table
-/// that is the first state. docs/FORMATS.md, "Programs".
+/// A program whose functions are all predefined and which stops exactly. It has no functions
+/// of its own yet. `start` is the name of the table that is the first state. docs/FORMATS.md, "Programs".
 #[derive(Drop)]
 pub struct Form {
     pub name: Text,
     pub parts: u32,
     pub rounds: u32,
     pub tables: Items<TableForm>,
+    pub functions: Typed,
     pub start: Text,
     pub steps: Items<StepForm>,
 }

@@ -5,18 +5,17 @@ ghost use Rattle.program_form.specs.Forms as forms;
 ghost use Rattle.program_form.specs.Forms.{IsFormOf, all_in, input_in, step_in, table_in};
 
 use crate::check::keeps_rules;
-use crate::form::{Form, Names, StepForm, TableForm};
+use crate::form::{Form, Names, Reduce, StepForm, TableForm};
 use function_language::KindLinks;
 use hal_base::{CopyIn, Items, Kind, Memory, Text};
-use loop_program::{InputSketch, Sketch, StepSketch, StopSketch, TableSketch};
-use predefined_functions::Reduce;
+use loop_program::{InputSketch, StepSketch, StopSketch, TableSketch, TypedSketch};
 use std::alloc::Global;
 
 /// The program without its lines, where all its functions are predefined, it stops exactly, and it keeps
 /// the rules. docs/FORMATS.md, "Programs".
-pub fn form_of(alloc: Global, sketch: &Sketch) -> Result<Option<Form>, Memory>
-    ensures found { IfOk result (λ form. IfSome form (IsFormOf sketch.now)) }
-    ensures only { IfOk result (λ found. IfNone found ((form : Plain) → IsFormOf sketch.now form → ⊥)) }
+pub fn form_of(alloc: Global, sketch: TypedSketch) -> Result<Option<Form>, Memory>
+    ensures found { IfOk result (λ form. IfSome form (IsFormOf sketch)) }
+    ensures only { IfOk result (λ found. IfNone found ((form : Plain) → IsFormOf sketch form → ⊥)) }
 {
     match form_in(alloc, sketch)? {
         Some(form) if keeps_rules(&form) => Ok(Some(form)),
@@ -25,10 +24,10 @@ pub fn form_of(alloc: Global, sketch: &Sketch) -> Result<Option<Form>, Memory>
 }
 
 /// The same, whether or not it keeps the rules.
-fn form_in(alloc: Global, sketch: &Sketch) -> Result<Option<Form>, Memory>
-    ensures { IfOk result (λ form. form ≡ forms.form_in sketch.now) }
+fn form_in(alloc: Global, sketch: TypedSketch) -> Result<Option<Form>, Memory>
+    ensures { IfOk result (λ form. form ≡ forms.form_in sketch) }
 {
-    if !is_plain(sketch) {
+    if !is_plain(&sketch) {
         return Ok(None);
     }
     let Some(parts) = count_in(64, sketch.parts.value) else {
@@ -48,19 +47,20 @@ fn form_in(alloc: Global, sketch: &Sketch) -> Result<Option<Form>, Memory>
         parts,
         rounds,
         tables,
+        functions: sketch.functions,
         start: sketch.start.text.copy(alloc)?,
         steps,
     }))
 }
 
 /// Whether the program stops exactly, asks for no cache and has no functions of its own.
-fn is_plain(sketch: &Sketch) -> bool
+fn is_plain(sketch: &TypedSketch) -> bool
     ensures { result ≡ forms.is_plain sketch.now }
 {
     let asked = &sketch.asked;
     is_exact(&sketch.stop)
         && !(asked.reducer_input || asked.reducer_output || asked.mapper_input)
-        && sketch.functions.as_slice().is_empty()
+        && sketch.functions.tree().as_slice().is_empty()
 }
 
 fn is_exact(stop: &StopSketch) -> bool

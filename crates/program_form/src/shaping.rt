@@ -1,16 +1,18 @@
 ghost use Rattle.std.specs.Prelude.{◌≡◌, ◌++◌, ◌≤◌, IfOk, List, OnOk, map, ℕ};
 ghost use Rattle.plain_job.specs.Plain.{FewSteps};
+ghost use Rattle.function_eval.specs.Meanings.{evaluated};
 ghost use Rattle.program_form.specs.Forms.{KeepsRules};
 ghost use Rattle.program_form.specs.Shapes as shapes;
 ghost use Rattle.program_form.specs.Shapes.{KnowsTables};
 
-use crate::form::{Form, Names, StepForm, TableForm};
+use crate::form::{Form, Names, Reduce, StepForm, TableForm};
+use function_eval::Evaluator;
 use hal_base::{
     Counts, Items, Kind, Kinds, Memory, Origin, Schema, Schemas, Shape, Source, Sources, Step,
     Steps, Text,
 };
-use predefined_functions::{Predefined, Reduces};
 use std::alloc::Global;
+use type_checker::{Use, UseMaps, UseStep, UseSteps, Uses};
 
 /// The program without its functions: tables count from 0 in their order, every table and stream has a
 /// number as key and one number as field, and there are no caches. Of a program that keeps the rules, the
@@ -40,16 +42,52 @@ fn build_shape(alloc: Global, form: &Form) -> Result<Shape, Memory>
     })
 }
 
-/// The reduces of the program's steps, over its parts. docs/SEMANTICS.md, "Predefined functions".
-pub fn form_functions(alloc: Global, form: &Form) -> Result<Predefined, Memory>
-    requires { 1 ≤ form.now.parts }
-    ensures { IfOk result (λ functions. functions ≡ (form.now.parts, map (λ step. step.reduce) form.now.steps)) }
+/// The functions of a program of this form, which is given up. docs/SEMANTICS.md, "Predefined functions".
+pub fn form_functions(alloc: Global, form: Form) -> Result<Evaluator, Memory>
+    requires { 1 ≤ form.parts }
+    ensures { IfOk result (λ made. made ≡ evaluated form.functions (shapes.uses_of form) form.parts) }
 {
-    let mut reduces = Reduces::new(alloc);
+    let uses = uses_of(alloc, &form)?;
+    Evaluator::new(alloc, form.functions, uses, form.parts)
+}
+
+/// What each place of the program uses: every map is `same`, and partitions and the distance are the default.
+fn uses_of(alloc: Global, form: &Form) -> Result<Uses, Memory>
+    ensures { IfOk result (λ uses. uses ≡ shapes.uses_of form.now) }
+{
+    let mut steps = UseSteps::new(alloc);
     'steps: for step in form.steps.as_slice() {
-        reduces.push(step.reduce)?;
+        steps.push(step_uses(alloc, step)?)?;
     }
-    Ok(Predefined::new(form.parts, reduces))
+    Ok(Uses {
+        steps,
+        distance: Use::Default,
+    })
+}
+
+fn step_uses(alloc: Global, step: &StepForm) -> Result<UseStep, Memory>
+    ensures { IfOk result (λ uses. uses ≡ shapes.step_uses step.now) }
+{
+    let mut maps = UseMaps::new(alloc);
+    maps.push(Use::Same)?;
+    'tables: for _table in step.tables.as_slice() {
+        maps.push(Use::Same)?;
+    }
+    Ok(UseStep {
+        maps,
+        reduce: used(step.reduce),
+        partition: Use::Default,
+    })
+}
+
+fn used(reduce: Reduce) -> Use
+    ensures { result ≡ shapes.used reduce }
+{
+    match reduce {
+        Reduce::Least => Use::Least,
+        Reduce::Every => Use::Every,
+        Reduce::Hop => Use::Hop,
+    }
 }
 
 /// The number of the first table with this name, or of all tables. No memory holds more tables than a

@@ -1,3 +1,2 @@
-pub mod ProgramLaws
 pub mod Programs
 pub mod Rows

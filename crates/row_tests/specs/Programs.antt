@@ -1,5 +1,5 @@
 -- Small worked programs, as shapes, meanings and tables.
-use Rattle.std.specs.Prelude.{ℕ, ◌+◌, ◌==◌, ℤ, pos, negsuc, ◌+ℤ◌, ◌*ℤ◌, int_div, Bool, true, false, List, [], ◌∷◌, None, Some, length, if◌then◌else◌}
+use Rattle.std.specs.Prelude.{ℕ, ◌+◌, ◌==◌, ℤ, pos, negsuc, ◌+ℤ◌, ◌*ℤ◌, int_div, Bool, true, false, List, [], ◌∷◌, None, Some, length, map, if◌then◌else◌}
 use Rattle.std.specs.List.{flat_map}
 use Rattle.hal_base.specs.declared.value.Kind.TheVariants as kind
 use Rattle.hal_base.specs.declared.value.Value.{Value}
@@ -14,8 +14,10 @@ use Rattle.hal_base.specs.declared.shape.Shape.{Shape}
 use Rattle.hal_base.specs.Meaning.{Meaning}
 use Rattle.hal_base.specs.Parts.{default_part}
 use Rattle.plain_job.specs.Predefined.{same, made, keyed, add}
-use Rattle.predefined_functions.specs.declared.predefined.Reduce.TheVariants.{Least, Hop}
-use Rattle.predefined_functions.specs.Meanings.{predefined_meaning}
+use Rattle.type_checker.specs.declared.uses.Use.{Use}
+use Rattle.type_checker.specs.declared.uses.Use.TheVariants.{Same, Least, Hop, Default}
+use Rattle.type_checker.specs.declared.uses.UseStep.{UseStep}
+use Rattle.function_eval.specs.Meanings.{meaning_of}
 
 -- a record of two numbers
 abbrev pub pair : ℕ → ℕ → Record
@@ -59,10 +61,14 @@ shape parts rounds exact threshold tables steps = record {
 abbrev pub none : Value → List (List Value) → List (List Value) → ℕ
 none key old new = 0
 
+-- a program of predefined functions whose steps have these reduces, each over two sources at most, over so many parts
+abbrev pub predefined : ℕ → List Use → Meaning
+predefined parts reduces = meaning_of [] (record { steps = map (λ (reduce : Use). record { maps = Same ∷ Same ∷ []; reduce = reduce; partition = Default }) reduces; distance = Default }) parts
+
 -- ---- distances by hops
 
 abbrev pub hops : Meaning
-hops = predefined_meaning 2 (Hop ∷ Least ∷ [])
+hops = predefined 2 (Hop ∷ Least ∷ [])
 
 abbrev pub hops_shape : ℕ → Shape
 hops_shape rounds = shape 2 rounds true 1 2 (step (source State ∷ source (Table 1 None) ∷ []) ∷ step (source Prev ∷ source (Table 0 None) ∷ []) ∷ [])
@@ -85,7 +91,7 @@ counts_shape = shape 2 2 true 1 2 (step (source State ∷ source (Table 1 None) 
 -- ---- one job, and a table that is read in round 2 only
 
 abbrev pub leasts : Meaning
-leasts = predefined_meaning 1 (Least ∷ [])
+leasts = predefined 1 (Least ∷ [])
 
 abbrev pub one_job_shape : Shape
 one_job_shape = shape 1 1 true 1 1 (step (source State ∷ []) ∷ [])

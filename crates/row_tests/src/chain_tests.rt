@@ -2,17 +2,16 @@
 ghost use Rattle.std.specs.Prelude.{◌≡◌, IfOk};
 ghost use Rattle.plain_job.specs.Plain.{FewSources, FewSteps};
 
-use crate::link_counts::LinkCounts;
-use crate::ranks::Ranks;
+use crate::functions::{COUNT, Program, RANKS, evaluator_of, predefined};
 use crate::samples::{pair, schema_of};
 use hal_base::{
-    Counts, Functions, Items, Kind, Memory, Origin, Parts, Records, Schemas, Shape, Source,
-    Sources, Step, Steps, Tables, lines,
+    Counts, Functions, Kind, Memory, Origin, Parts, Records, Schemas, Shape, Source, Sources, Step,
+    Steps, Tables, lines,
 };
 use plain_job::{End, plain_chain};
-use predefined_functions::{Predefined, Reduce, Reduces};
 use std::alloc::Global;
 use std::test::Fail;
+use type_checker::Use;
 
 const LINKS: Origin = Origin::Table {
     table: 1,
@@ -66,10 +65,6 @@ fn two_steps(alloc: Global, first: Step, second: Step) -> Result<Steps, Memory>
     steps.push(first)?;
     steps.push(second)?;
     Ok(steps)
-}
-
-fn reduces_of(alloc: Global, reduces: &[Reduce]) -> Result<Reduces, Memory> {
-    Ok(Items::from_vec(Vec::from_slice(alloc, reduces)?))
 }
 
 /// How many rounds there may be, and when a chain stops.
@@ -174,7 +169,9 @@ fn are_texts(alloc: Global, parts: &Parts, texts: &[&str]) -> Result<bool, Memor
 #[test]
 fn hops_go_on_round_by_round(rt: HostRuntime) -> Result<(), Fail> {
     let alloc = rt.alloc();
-    let functions = Predefined::new(2, reduces_of(alloc, &[Reduce::Hop, Reduce::Least])?);
+    let functions = evaluator_of(alloc, predefined(&[Use::Hop, Use::Least]), 2)?.ok_or(
+        "no functions",
+    )?;
     let some = tables_of(alloc, &[&[(1, 0)], &[(1, 2), (2, 3)]])?;
     let none = tables_of(alloc, &[&[], &[(1, 2), (2, 3)]])?;
     for (most, tables, wanted) in [
@@ -195,7 +192,7 @@ fn hops_go_on_round_by_round(rt: HostRuntime) -> Result<(), Fail> {
 #[test]
 fn the_least_go_on_round_by_round(rt: HostRuntime) -> Result<(), Fail> {
     let alloc = rt.alloc();
-    let functions = Predefined::new(1, reduces_of(alloc, &[Reduce::Least])?);
+    let functions = evaluator_of(alloc, predefined(&[Use::Least]), 1)?.ok_or("no functions")?;
     let shape = one_step_shape(alloc, 1, exactly(1), None)?;
     let tables = tables_of(alloc, &[&[(2, 7), (1, 5), (2, 3)]])?;
     let wanted = (1, End::Limit, ["1\t5\n2\t3\n"].as_slice());
@@ -220,6 +217,12 @@ fn the_least_go_on_round_by_round(rt: HostRuntime) -> Result<(), Fail> {
 #[test]
 fn counted_links_go_on_round_by_round(rt: HostRuntime) -> Result<(), Fail> {
     let alloc = rt.alloc();
+    let program = Program {
+        text: COUNT,
+        reduces: &[Use::Function(0)],
+        distance: Use::Function(1),
+    };
+    let functions = evaluator_of(alloc, program, 2)?.ok_or("no functions")?;
     let tables = tables_of(alloc, &[&[(9, 0)], &[(1, 2), (1, 3), (4, 1)]])?;
     let first = ["14\t1\n", "11\t2\n19\t0\n"];
     let second = ["14\t1\n24\t0\n", "11\t2\n21\t0\n29\t0\n"];
@@ -238,7 +241,7 @@ fn counted_links_go_on_round_by_round(rt: HostRuntime) -> Result<(), Fail> {
         };
         let shape = one_step_shape(alloc, 2, stop, Some(LINKS))?;
         let texts = if rounds == 1 { &first } else { &second };
-        let so = ends_so(alloc, &LinkCounts {}, &shape, &tables, (rounds, end, texts))?;
+        let so = ends_so(alloc, &functions, &shape, &tables, (rounds, end, texts))?;
         assert!(rt; so, "of {most}");
     }
     Ok(())
@@ -247,6 +250,12 @@ fn counted_links_go_on_round_by_round(rt: HostRuntime) -> Result<(), Fail> {
 #[test]
 fn ranks_go_on_round_by_round(rt: HostRuntime) -> Result<(), Fail> {
     let alloc = rt.alloc();
+    let program = Program {
+        text: RANKS,
+        reduces: &[Use::Function(0), Use::Function(1)],
+        distance: Use::Function(2),
+    };
+    let functions = evaluator_of(alloc, program, 1)?.ok_or("no functions")?;
     let tables = tables_of(alloc, &[&[(1, 1000000), (2, 0)], &[(1, 2), (2, 1)]])?;
     // Round 2 is 1572500 from round 1, and round 3 is 1336625 from round 2.
     for (most, threshold, rounds, end, text) in [
@@ -262,7 +271,7 @@ fn ranks_go_on_round_by_round(rt: HostRuntime) -> Result<(), Fail> {
             threshold,
         };
         let shape = two_step_shape(alloc, 1, stop, None)?;
-        let so = ends_so(alloc, &Ranks {}, &shape, &tables, (rounds, end, &[text]))?;
+        let so = ends_so(alloc, &functions, &shape, &tables, (rounds, end, &[text]))?;
         assert!(rt; so, "of {most}");
     }
     Ok(())

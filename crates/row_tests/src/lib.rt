@@ -8,11 +8,9 @@ mod chain_tests;
 #[cfg(test)]
 mod failing;
 #[cfg(test)]
+mod functions;
+#[cfg(test)]
 mod library_tests;
-#[cfg(test)]
-mod link_counts;
-#[cfg(test)]
-mod ranks;
 pub mod rows;
 #[cfg(test)]
 mod samples;

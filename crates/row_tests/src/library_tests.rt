@@ -1,11 +1,12 @@
 // Vectors for the parts, the test for the end and the shuffle.
+use crate::functions::{evaluator_of, predefined};
 use crate::samples::pair;
 use fixpoint_test::{Next, decide, global_distance, part_distance};
 use hal_base::{Memory, Records, SortedStream, Text, Value, default_part, lines, write_line};
 use partition_shuffle::{merge, spill};
-use predefined_functions::{Predefined, Reduces};
 use std::alloc::Global;
 use std::test::Fail;
+use type_checker::Use;
 
 fn rows_of(alloc: Global, pairs: &[(i64, i64)]) -> Result<Records, Memory> {
     let mut rows = Records::new(alloc);
@@ -35,7 +36,7 @@ fn ends_are_decided(rt: HostRuntime) -> Result<(), Fail> {
     assert!(rt; decide(1, None, 1, true, 1) == Next::Limit);
     assert!(rt; decide(3, Some(0), 1, true, 3) == Next::Fixpoint);
     assert!(rt; decide(3, Some(4), 5, false, 9) == Next::Close);
-    let functions = Predefined::new(1, Reduces::new(rt.alloc()));
+    let functions = evaluator_of(rt.alloc(), predefined(&[]), 1)?.ok_or("no functions")?;
     let old = rows_of(rt.alloc(), &[(1, 5), (2, 6), (1, 4)])?;
     let new = rows_of(rt.alloc(), &[(1, 4), (1, 5), (3, 6)])?;
     // Keys 2 and 3 differ, and the order within key 1 does not count.
@@ -45,7 +46,7 @@ fn ends_are_decided(rt: HostRuntime) -> Result<(), Fail> {
 
 #[test]
 fn rows_are_spilled_and_merged(rt: HostRuntime) -> Result<(), Fail> {
-    let functions = Predefined::new(2, Reduces::new(rt.alloc()));
+    let functions = evaluator_of(rt.alloc(), predefined(&[Use::Least]), 2)?.ok_or("no functions")?;
     let rows = rows_of(rt.alloc(), &[(3, 1), (2, 9), (-1, 4), (3, 0)])?;
     let spilled = spill(rt.alloc(), &functions, 1, 1, 1, &rows, 2)?;
     for (section, text) in spilled

@@ -1,0 +1,11 @@
+-- The place of a name among names.
+use Rattle.std.specs.Prelude.{ℕ, suc, cond, List, [], ◌∷◌, Option, None, Some}
+use Rattle.std.specs.Str.{bytes_eq}
+
+-- at which place of a list the name stands first, behind so many
+abbrev pub place_behind : ℕ → List ℕ → List (List ℕ) → Option ℕ
+place_behind n name [] = None
+place_behind n name (other ∷ names) = cond (bytes_eq name other) (Some n) (place_behind (suc n) name names)
+
+abbrev pub place_of : List ℕ → List (List ℕ) → Option ℕ
+place_of name names = place_behind 0 name names

@@ -1,0 +1,14 @@
+//! The kinds of names and expressions in functions: right, or the first fault.
+#![tactic(auto)]
+
+mod expression;
+mod fault;
+mod function;
+mod scope;
+mod statement;
+mod typed;
+mod uses;
+
+pub use fault::TypeFault;
+pub use typed::{Typed, check};
+pub use uses::{Use, UseMaps, UseStep, UseSteps, Uses};
