@@ -1,16 +1,11 @@
 -- What the steps of the check of names and kinds find, for their contracts alone.
-use Rattle.std.specs.Prelude.{◌≡◌, ℕ, List, map}
+use Rattle.std.specs.Prelude.{◌≡◌}
 use Rattle.type_checker.specs.declared.fault.TypeFault.{TypeFault}
 use Rattle.type_checker.specs.declared.fault.TypeFault.TheVariants as fault
 use Rattle.loop_program.specs.declared.fault.ProgramFault.{ProgramFault}
 use Rattle.loop_program.specs.declared.fault.ProgramFault.TheVariants.{At, Memory}
 use Rattle.loop_program.specs.declared.sketch.Sketch.{Sketch}
-use Rattle.loop_program.specs.declared.sketch.TableSketch.{TableSketch}
 use Rattle.loop_program.specs.Types.{HasFirst, IsSaid}
-
--- the names of tables
-abbrev pub names_of : List TableSketch → List (List ℕ)
-names_of tables = map (λ (table : TableSketch). table.name.text) tables
 
 -- a fault of functions is said so, or it is want of memory
 abbrev pub SaysFault : TypeFault → ProgramFault → Type 0
