@@ -613,6 +613,25 @@ row 'function: 100,000 statements'
 } >p.hal
 refused
 
+row 'program: 25,000 tables, the last with the name of the first'
+{
+    printf '%s\n' "${form_lines[@]:0:5}"
+    seq -f 'table t%.0f "t.tsv" (int, int);' 25000
+    printf 'table t "t.tsv" (int, int);\n'
+    printf '%s\n' "${form_lines[@]:5}"
+} >p.hal
+wrong 25006 double-name
+
+row 'function: 60,000 variables, and one of the same name as the last'
+{
+    printf '%s\n' "${form_lines[@]:0:5}"
+    printf 'map f(k: int) -> (int) {\n'
+    seq -f 'let a%.0f=k;' 60000
+    printf 'let a60000 = k; }\n'
+    printf '%s\n' "${form_lines[@]:5}"
+} >p.hal
+wrong 60007 double-name
+
 # The tokens of a program with functions, each in a line of its own, up to each of them.
 mapfile -t tokens < <(
     sed 's/\([(){},;:=]\|->\)/ \1 /g; s/  */\n/g' <<'END' | sed '/^$/d'

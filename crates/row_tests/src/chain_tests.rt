@@ -157,6 +157,22 @@ fn ends_so<F: Functions>(
     Ok(ended && are_texts(alloc, &chain.parts, texts)?)
 }
 
+/// The same of a program, over the parts of the shape.
+fn program_ends_so(
+    alloc: Global,
+    program: Program<'_>,
+    shape: &Shape,
+    tables: &Tables,
+    wanted: (u32, End, &[&str]),
+) -> Result<bool, Memory>
+    requires { FewSteps shape.now.steps }
+{
+    match evaluator_of(alloc, program, shape.parts)? {
+        Some(functions) => ends_so(alloc, &functions, shape, tables, wanted),
+        None => Ok(false),
+    }
+}
+
 fn are_texts(alloc: Global, parts: &Parts, texts: &[&str]) -> Result<bool, Memory> {
     for (part, text) in parts.as_slice().iter().zip(texts) {
         if lines(alloc, part)?.as_slice() != text.as_bytes() {
@@ -169,9 +185,7 @@ fn are_texts(alloc: Global, parts: &Parts, texts: &[&str]) -> Result<bool, Memor
 #[test]
 fn hops_go_on_round_by_round(rt: HostRuntime) -> Result<(), Fail> {
     let alloc = rt.alloc();
-    let functions = evaluator_of(alloc, predefined(&[Use::Hop, Use::Least]), 2)?.ok_or(
-        "no functions",
-    )?;
+    let program = predefined(&[Use::Hop, Use::Least]);
     let some = tables_of(alloc, &[&[(1, 0)], &[(1, 2), (2, 3)]])?;
     let none = tables_of(alloc, &[&[], &[(1, 2), (2, 3)]])?;
     for (most, tables, wanted) in [
@@ -183,7 +197,7 @@ fn hops_go_on_round_by_round(rt: HostRuntime) -> Result<(), Fail> {
     ] {
         let shape = two_step_shape(alloc, 2, exactly(most), Some(START))?;
         let (rounds, end, texts) = wanted;
-        let so = ends_so(alloc, &functions, &shape, tables, (rounds, end, &texts))?;
+        let so = program_ends_so(alloc, program, &shape, tables, (rounds, end, &texts))?;
         assert!(rt; so, "of {most}");
     }
     Ok(())
@@ -192,11 +206,11 @@ fn hops_go_on_round_by_round(rt: HostRuntime) -> Result<(), Fail> {
 #[test]
 fn the_least_go_on_round_by_round(rt: HostRuntime) -> Result<(), Fail> {
     let alloc = rt.alloc();
-    let functions = evaluator_of(alloc, predefined(&[Use::Least]), 1)?.ok_or("no functions")?;
+    let program = predefined(&[Use::Least]);
     let shape = one_step_shape(alloc, 1, exactly(1), None)?;
     let tables = tables_of(alloc, &[&[(2, 7), (1, 5), (2, 3)]])?;
     let wanted = (1, End::Limit, ["1\t5\n2\t3\n"].as_slice());
-    assert!(rt; ends_so(alloc, &functions, &shape, &tables, wanted)?);
+    assert!(rt; program_ends_so(alloc, program, &shape, &tables, wanted)?);
     let tables = tables_of(alloc, &[&[(1, 9)], &[(1, 4)]])?;
     for (most, end, text) in [
         (1, End::Limit, "1\t9\n"),
@@ -208,7 +222,7 @@ fn the_least_go_on_round_by_round(rt: HostRuntime) -> Result<(), Fail> {
             only: Some(2),
         };
         let shape = one_step_shape(alloc, 1, exactly(most), Some(late))?;
-        let so = ends_so(alloc, &functions, &shape, &tables, (most, end, &[text]))?;
+        let so = program_ends_so(alloc, program, &shape, &tables, (most, end, &[text]))?;
         assert!(rt; so, "of {most}");
     }
     Ok(())
@@ -222,7 +236,6 @@ fn counted_links_go_on_round_by_round(rt: HostRuntime) -> Result<(), Fail> {
         reduces: &[Use::Function(0)],
         distance: Use::Function(1),
     };
-    let functions = evaluator_of(alloc, program, 2)?.ok_or("no functions")?;
     let tables = tables_of(alloc, &[&[(9, 0)], &[(1, 2), (1, 3), (4, 1)]])?;
     let first = ["14\t1\n", "11\t2\n19\t0\n"];
     let second = ["14\t1\n24\t0\n", "11\t2\n21\t0\n29\t0\n"];
@@ -241,7 +254,7 @@ fn counted_links_go_on_round_by_round(rt: HostRuntime) -> Result<(), Fail> {
         };
         let shape = one_step_shape(alloc, 2, stop, Some(LINKS))?;
         let texts = if rounds == 1 { &first } else { &second };
-        let so = ends_so(alloc, &functions, &shape, &tables, (rounds, end, texts))?;
+        let so = program_ends_so(alloc, program, &shape, &tables, (rounds, end, texts))?;
         assert!(rt; so, "of {most}");
     }
     Ok(())
@@ -255,7 +268,6 @@ fn ranks_go_on_round_by_round(rt: HostRuntime) -> Result<(), Fail> {
         reduces: &[Use::Function(0), Use::Function(1)],
         distance: Use::Function(2),
     };
-    let functions = evaluator_of(alloc, program, 1)?.ok_or("no functions")?;
     let tables = tables_of(alloc, &[&[(1, 1000000), (2, 0)], &[(1, 2), (2, 1)]])?;
     // Round 2 is 1572500 from round 1, and round 3 is 1336625 from round 2.
     for (most, threshold, rounds, end, text) in [
@@ -271,7 +283,7 @@ fn ranks_go_on_round_by_round(rt: HostRuntime) -> Result<(), Fail> {
             threshold,
         };
         let shape = two_step_shape(alloc, 1, stop, None)?;
-        let so = ends_so(alloc, &functions, &shape, &tables, (rounds, end, &[text]))?;
+        let so = program_ends_so(alloc, program, &shape, &tables, (rounds, end, &[text]))?;
         assert!(rt; so, "of {most}");
     }
     Ok(())

@@ -1,9 +1,11 @@
 // The functions of worked programs, from their text.
+ghost use Rattle.std.specs.Prelude.{◌≤◌};
+
 use function_eval::Evaluator;
-use function_language::{SyntaxFault, read_functions};
+use function_language::{SyntaxFault, Tree, read_functions};
 use hal_base::Memory;
 use std::alloc::Global;
-use type_checker::{TypeFault, Use, UseMaps, UseStep, UseSteps, Uses, check};
+use type_checker::{TypeFault, Typed, Use, UseMaps, UseStep, UseSteps, Uses, check};
 
 /// How many links each key has, ten keys further on, and no distance.
 pub(crate) const COUNT: &[u8] = b"reduce count(k: int; s: (int), t: (int)) -> (int, int) {
@@ -58,28 +60,48 @@ pub(crate) fn evaluator_of(
     program: Program<'_>,
     parts: u32,
 ) -> Result<Option<Evaluator>, Memory> {
-    let tree = match read_functions(alloc, program.text) {
-        Ok(tree) => tree,
-        Err(SyntaxFault::Memory) => return Err(Memory),
-        Err(SyntaxFault::At { .. }) => return Ok(None),
-    };
-    let typed = match check(alloc, tree) {
-        Ok(typed) => typed,
-        Err(TypeFault::Memory) => return Err(Memory),
-        Err(_) => return Ok(None),
-    };
+    if parts == 0 {
+        return Ok(None);
+    }
+    match typed_of(alloc, program.text)? {
+        Some(typed) => Ok(Some(made(alloc, typed, program, parts)?)),
+        None => Ok(None),
+    }
+}
+
+/// The functions of a text, if there are any and no fault is in them.
+fn typed_of(alloc: Global, text: &[u8]) -> Result<Option<Typed>, Memory> {
+    match read_functions(alloc, text) {
+        Ok(tree) => checked(alloc, tree),
+        Err(SyntaxFault::Memory) => Err(Memory),
+        Err(SyntaxFault::At { .. }) => Ok(None),
+    }
+}
+
+fn checked(alloc: Global, tree: Tree) -> Result<Option<Typed>, Memory> {
+    match check(alloc, tree) {
+        Ok(typed) => Ok(Some(typed)),
+        Err(TypeFault::Memory) => Err(Memory),
+        Err(_) => Ok(None),
+    }
+}
+
+fn made(alloc: Global, typed: Typed, program: Program<'_>, parts: u32) -> Result<Evaluator, Memory>
+    requires { 1 ≤ parts }
+{
+    let uses = uses_of(alloc, program)?;
+    Evaluator::new(alloc, typed, uses, parts)
+}
+
+fn uses_of(alloc: Global, program: Program<'_>) -> Result<Uses, Memory> {
     let mut steps = UseSteps::new(alloc);
     for reduce in program.reduces {
         steps.push(step_of(alloc, *reduce)?)?;
     }
-    let uses = Uses {
+    Ok(Uses {
         steps,
         distance: program.distance,
-    };
-    if parts == 0 {
-        return Ok(None);
-    }
-    Ok(Some(Evaluator::new(alloc, typed, uses, parts)?))
+    })
 }
 
 /// A step over two sources at most, both read as they stand.

@@ -2,7 +2,9 @@
 use crate::functions::{evaluator_of, predefined};
 use crate::samples::pair;
 use fixpoint_test::{Next, decide, global_distance, part_distance};
-use hal_base::{Memory, Records, SortedStream, Text, Value, default_part, lines, write_line};
+use hal_base::{
+    Memory, Parts, Records, SortedStream, Text, Value, default_part, lines, write_line,
+};
 use partition_shuffle::{merge, spill};
 use std::alloc::Global;
 use std::test::Fail;
@@ -14,6 +16,22 @@ fn rows_of(alloc: Global, pairs: &[(i64, i64)]) -> Result<Records, Memory> {
         rows.push(pair(alloc, *key, *field)?)?;
     }
     Ok(rows)
+}
+
+/// The distance by the exact stop, or want of memory.
+fn distance_of(alloc: Global, old: &Records, new: &Records) -> Result<u64, Memory> {
+    match evaluator_of(alloc, predefined(&[]), 1)? {
+        Some(functions) => part_distance(alloc, &functions, old, new),
+        None => Err(Memory),
+    }
+}
+
+/// What `same` leaves for two parts, or want of memory.
+fn spilled_of(alloc: Global, rows: &Records) -> Result<Parts, Memory> {
+    match evaluator_of(alloc, predefined(&[Use::Least]), 2)? {
+        Some(functions) => spill(alloc, &functions, 1, 1, 1, rows, 2),
+        None => Err(Memory),
+    }
 }
 
 #[test]
@@ -36,19 +54,17 @@ fn ends_are_decided(rt: HostRuntime) -> Result<(), Fail> {
     assert!(rt; decide(1, None, 1, true, 1) == Next::Limit);
     assert!(rt; decide(3, Some(0), 1, true, 3) == Next::Fixpoint);
     assert!(rt; decide(3, Some(4), 5, false, 9) == Next::Close);
-    let functions = evaluator_of(rt.alloc(), predefined(&[]), 1)?.ok_or("no functions")?;
     let old = rows_of(rt.alloc(), &[(1, 5), (2, 6), (1, 4)])?;
     let new = rows_of(rt.alloc(), &[(1, 4), (1, 5), (3, 6)])?;
     // Keys 2 and 3 differ, and the order within key 1 does not count.
-    assert_eq!(rt; part_distance(rt.alloc(), &functions, &old, &new)?, 2);
+    assert_eq!(rt; distance_of(rt.alloc(), &old, &new)?, 2);
     Ok(())
 }
 
 #[test]
 fn rows_are_spilled_and_merged(rt: HostRuntime) -> Result<(), Fail> {
-    let functions = evaluator_of(rt.alloc(), predefined(&[Use::Least]), 2)?.ok_or("no functions")?;
     let rows = rows_of(rt.alloc(), &[(3, 1), (2, 9), (-1, 4), (3, 0)])?;
-    let spilled = spill(rt.alloc(), &functions, 1, 1, 1, &rows, 2)?;
+    let spilled = spilled_of(rt.alloc(), &rows)?;
     for (section, text) in spilled
         .as_slice()
         .iter()
