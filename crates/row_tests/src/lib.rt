@@ -11,6 +11,8 @@ mod failing;
 mod functions;
 #[cfg(test)]
 mod library_tests;
+#[cfg(test)]
+mod link_counts;
 pub mod rows;
 #[cfg(test)]
 mod samples;

@@ -1,5 +1,6 @@
 // Vectors for the parts, the test for the end and the shuffle.
 use crate::functions::{evaluator_of, predefined};
+use crate::link_counts::LinkCounts;
 use crate::samples::pair;
 use fixpoint_test::{Next, decide, global_distance, part_distance};
 use hal_base::{
@@ -8,7 +9,6 @@ use hal_base::{
 use partition_shuffle::{merge, spill};
 use std::alloc::Global;
 use std::test::Fail;
-use type_checker::Use;
 
 fn rows_of(alloc: Global, pairs: &[(i64, i64)]) -> Result<Records, Memory> {
     let mut rows = Records::new(alloc);
@@ -22,14 +22,6 @@ fn rows_of(alloc: Global, pairs: &[(i64, i64)]) -> Result<Records, Memory> {
 fn distance_of(alloc: Global, old: &Records, new: &Records) -> Result<u64, Memory> {
     match evaluator_of(alloc, predefined(&[]), 1)? {
         Some(functions) => part_distance(alloc, &functions, old, new),
-        None => Err(Memory),
-    }
-}
-
-/// What `same` leaves for two parts, or want of memory.
-fn spilled_of(alloc: Global, rows: &Records) -> Result<Parts, Memory> {
-    match evaluator_of(alloc, predefined(&[Use::Least]), 2)? {
-        Some(functions) => spill(alloc, &functions, 1, 1, 1, rows, 2),
         None => Err(Memory),
     }
 }
@@ -64,7 +56,7 @@ fn ends_are_decided(rt: HostRuntime) -> Result<(), Fail> {
 #[test]
 fn rows_are_spilled_and_merged(rt: HostRuntime) -> Result<(), Fail> {
     let rows = rows_of(rt.alloc(), &[(3, 1), (2, 9), (-1, 4), (3, 0)])?;
-    let spilled = spilled_of(rt.alloc(), &rows)?;
+    let spilled = spill(rt.alloc(), &LinkCounts {}, 1, 1, 1, &rows, 2)?;
     for (section, text) in spilled
         .as_slice()
         .iter()
