@@ -141,7 +141,7 @@ part() {
     wants_file out/part-00000 "$1"
 }
 
-# refused: the job is not done, since the program or the schedule is of another form.
+# refused: the job is not done, since the schedule is of another form.
 refused() {
     job
     wants 12 "$not_built"
@@ -187,12 +187,6 @@ seconds=10
 
 row 'one job'
 part "$least"
-
-row 'the example'
-cp -r "$top/examples" .
-call run examples/one-job/least.hal examples/one-job/one-node.txt out
-wants 0 "$report"
-wants_file out/part-00000 '1\t-5\n2\t6\n3\t11\n10\t20\n12\t3\n'
 
 # accepted_table NAME TABLE PART
 accepted_table() {
@@ -270,13 +264,6 @@ refused_schedule 'no line end' 'nodes 1'
 refused_schedule 'CR LF' 'nodes 1\r\n'
 refused_schedule 'another line' 'nodes 1\n\n'
 refused_schedule 'two blanks' 'nodes  1\n'
-
-# refused_form NAME NUMBER TEXT: another line in the program.
-refused_form() {
-    row "program: $1"
-    form "$2" "$3"
-    refused
-}
 
 # wrong_form NAME LINE NUMBER TEXT: another line in the program, which has a fault of syntax in line LINE.
 wrong_form() {
@@ -391,28 +378,6 @@ a partition before the reduce|7|step { state by same; partition p; reduce least;
 a mark too many|7|step { state by same; reduce least; } }
 END
 
-# Each line that makes it a program of another form.
-while IFS='|' read -r name number line; do
-    refused_form "$name" "$number" "$line\n"
-done <<END
-parts 0|2|parts 0;
-rounds 0|3|rounds 0;
-another stop|4|stop below 1 by f;
-all caches|4|stop exact; cache reducer_input; cache reducer_output; cache mapper_input;
-another table at the beginning|6|begin u;
-a longer table at the beginning|6|begin tt;
-a text as the key|5|table t "t.tsv" (text, int);
-a text as the field|5|table t "t.tsv" (int, text);
-no kind|5|table t "t.tsv" ();
-one kind|5|table t "t.tsv" (int);
-three kinds|5|table t "t.tsv" (int, int, int);
-a file name with no byte|5|table t "" (int, int);
-a file name with a backslash|5|table t "t\\\\\\\\.tsv" (int, int);
-a file name with a quotation mark|5|table t "t\\\\".tsv" (int, int);
-another map|7|step { state by other; reduce least; }
-another reduce|7|step { state by same; reduce greatest; }
-END
-
 free_form 'no blank between the kinds' 5 'table t "t.tsv" (int,int);\n'
 
 row 'program: empty'
@@ -461,23 +426,22 @@ with_functions() {
     form 6 "$1${form_lines[5]}\n"
 }
 
-# Each function that the grammar has, with names and kinds that are right; the program is then of another form.
+# Each function that the grammar has, with names and kinds that are right; no step uses it.
 while IFS='|' read -r name text; do
     row "function: $name"
     with_functions "$text\n"
-    refused
+    part "$least"
 done <<'END'
 a map|map f(k: int) -> (int) { emit(k); }
 a map of many parameters|map f(k: int, v: text, w: int) -> (int, text) { emit(k, v); }
 a reduce|reduce f(k: int; a: (int), b: ()) -> (int, int) { for (x) in a { emit(k, x); } }
 a distance|distance f(k: int; a: (int), b: (int)) { give(1); }
 a partition|partition f(k: text) { give(len(k)); }
-no statements|map f(k: int) -> () { }
+no statements|map f(k: int) -> (int) { }
 every statement but give|reduce f(k: int; s: ()) -> (int) { let a = 1; set a = add(a, 2); if (a) { emit(a); } else { emit(k); } for () in s { } }
 a give in an if|distance f(k: text; a: (int), b: (int)) { for (x) in a { if (gt(x, 0)) { give(x); } } }
 an if without else|map f(k: int) -> (int) { if (k) { } emit(k); }
 nested calls|map f(k: int) -> (int) { emit(add(mul(k, k), round)); }
-an emit of nothing|map f(k: int) -> () { emit(); }
 texts|map f(k: int) -> (text, text) { emit("a\\\\\\"b", ""); }
 the least number|map f(k: int) -> (int) { emit(-9223372036854775808); }
 the greatest number|map f(k: int) -> (int) { emit(9223372036854775807); }
@@ -585,7 +549,7 @@ repeated() {
 
 row 'function: 32 blocks in one another'
 with_functions "$(nested 32)"
-refused
+part "$least"
 
 row 'function: 33 blocks in one another'
 with_functions "$(nested 33)"
@@ -593,7 +557,7 @@ wrong 7 syntax
 
 row 'function: 31 calls in one another, in a block'
 with_functions "$(called 31)"
-refused
+part "$least"
 
 row 'function: 32 calls in one another, in a block'
 with_functions "$(called 32)"
@@ -611,7 +575,7 @@ row 'function: 100,000 statements'
     printf '}\n'
     printf '%s\n' "${form_lines[@]:5}"
 } >p.hal
-refused
+part "$least"
 
 row 'program: 25,000 tables, the last with the name of the first'
 {
@@ -636,11 +600,11 @@ wrong 60007 double-name
 mapfile -t tokens < <(
     sed 's/\([(){},;:=]\|->\)/ \1 /g; s/  */\n/g' <<'END' | sed '/^$/d'
 program p ; parts 2 ; rounds 3 ; stop below 4 by d ; cache reducer_input ; cache mapper_input ;
-table t "t.tsv" (int, text) ; table u "u.tsv" () ;
-map m (k: int, v: text) -> (int) { let a = add(1, round); if (a) { set a = -1; } else { emit(k); } }
-reduce r (k: int; s: (int), o: ()) -> (int, text) { for (x) in s { emit(x, "y"); } for () in o { } }
-distance d (k: int; a: (int), b: (int)) { give(1); }
-partition q (k: int) { give(0); }
+table t "t.tsv" (int, text) ; table u "u.tsv" (int) ;
+map m (k: int, v: text) -> (int, int) { let a = sub(1, round); if (a) { set a = -1; } else { emit(k, len(v)); } }
+reduce r (k: int; s: (int), o: ()) -> (int, text) { for (x) in s { emit(x, "y"); } for () in o { emit(k, "z"); } }
+distance d (k: int; a: (text), b: (text)) { give(1); }
+partition q (k: int) { give(1); }
 begin t ; step { state by m ; table u round 2 by same ; reduce r ; partition q ; }
 END
 )
@@ -657,7 +621,11 @@ done
     IFS=$'\n'
     printf '%s' "${tokens[*]}"
 ) >p.hal
-refused
+put u.tsv '7\n'
+job
+wants 0 'rounds 2\nend close\n'
+wants_file out/part-00000 ''
+wants_file out/part-00001 '7\tz\n'
 
 row 'program: a mark too many behind each token'
 for ((number = 1; number < ${#tokens[@]}; number++)); do
@@ -687,6 +655,18 @@ accepted_file() {
 accepted_file 'a file name of 1 byte' t
 accepted_file 'a file name of 200 bytes with blanks' "$(printf 'a b %.0s' {1..50})"
 accepted_file 'a file name with marks' "~!#\$%&'()*+,-.:;<=>?@[]^_{|}"
+
+row 'program: a file name with a backslash'
+mv t.tsv 't\.tsv'
+form 5 'table t "t\\\\.tsv" (int, int);\n'
+part "$least"
+rm -r 't\.tsv' out
+absent 't\\.tsv'
+
+row 'program: a file name with a quotation mark'
+mv t.tsv 't".tsv'
+form 5 'table t "t\\".tsv" (int, int);\n'
+part "$least"
 
 row 'program: a file name of 255 bytes, in a folder'
 folder=${file_256:0:127}
@@ -742,10 +722,15 @@ row 'absent schedule and table'
 rm s.txt t.tsv
 absent s.txt
 
-row 'program of another form before an absent schedule'
+row 'a refused program before an absent schedule'
 form 2 'parts 0;\n'
 rm s.txt
-refused
+wrong 2 limit
+
+row 'a refused program before an absent table'
+form 7 'step { state by same; reduce most; }\n'
+rm t.tsv
+wrong 7 unknown-name
 
 row 'schedule of another form before an absent table'
 put s.txt 'nodes 2\n'
@@ -802,7 +787,7 @@ mkdir out
 put out/part-00000 'old'
 form 2 'parts 0;\n'
 job
-wants 12 "$not_built"
+wants 2 'error: program line 2: limit\n'
 wants_file out/part-00000 'old'
 
 row 'a faulty table leaves the files in the folder'
@@ -1085,13 +1070,6 @@ table_rows() {
     faulty links '2: bad-number 1'
 }
 
-# refused_hops NAME NUMBER TEXT: another line in the program, which is then of another form.
-refused_hops() {
-    hops_row "$1"
-    hops "$2" "$3"
-    refused
-}
-
 # wrong_hops NAME LINE NUMBER TEXT: another line in the program, which has a fault of syntax in line LINE.
 wrong_hops() {
     hops_row "$1"
@@ -1108,28 +1086,6 @@ free_hops() {
 
 program_rows() {
     local name number line
-    while IFS='|' read -r name number line; do
-        refused_hops "$name" "$number" "$line\n"
-    done <<'END'
-parts 0|2|parts 0;
-parts 65|2|parts 65;
-parts above 32 bits|2|parts 4294967298;
-rounds 0|3|rounds 0;
-rounds 10001|3|rounds 10001;
-rounds above 32 bits|3|rounds 4294967316;
-a cache|4|stop exact;\ncache reducer_input;
-the caches of the whole program|4|stop exact;\ncache reducer_input;\ncache reducer_output;
-another table at the beginning|7|begin stars;
-another table in a step|8|step { state by same; table link by same; reduce hop; }
-a table in one round|8|step { state by same; table links round 1 by same; reduce hop; }
-another map in a step|8|step { state by same; table links by other; reduce hop; }
-another reduce in a step|8|step { state by same; table links by same; reduce most; }
-hop of one source|8|step { state by same; reduce hop; }
-hop of one source in the second step|9|step { prev by same; reduce hop; }
-hop of three sources|8|step { state by same; table links by same; table start by same; reduce hop; }
-a partition|9|step { prev by same; table start by same; reduce least; partition whole; }
-END
-
     while IFS='|' read -r name number line; do
         wrong_hops "$name" "$number" "$number" "$line\n"
     done <<'END'
@@ -1168,19 +1124,534 @@ END
     hops_row 'no step'
     hops 8 '' 9 ''
     wrong 8 syntax
+}
 
-    refused_hops '17 tables' 6 "${hops_lines[5]}\n$(tables 15)"
-    refused_hops '9 sources' 9 "step { prev by same;$(repeated 8 ' table start by same;') reduce least; }\n"
-    refused_hops '9 steps' 9 "$(repeated 8 'step { prev by same; reduce least; }\n')"
-    refused_hops '20,000 tables' 6 "${hops_lines[5]}\n$(tables 20000)"
-    refused_hops '30,000 sources' 9 "step { prev by same;$(repeated 30000 ' table start by same;') reduce least; }\n"
-    refused_hops '20,000 steps' 9 "$(repeated 20000 'step { prev by same; reduce least; }\n')"
+# A program with each thing that may break a rule of whole programs, at a first and at a last place.
+whole_lines=(
+    'program whole;'
+    'parts 2;'
+    'rounds 3;'
+    'stop below 5 by far;'
+    'table t "t.tsv" (int, int);'
+    'table u "u.tsv" (int, text);'
+    'map one(k: int, v: text) -> (int, int) { emit(k, len(v)); }'
+    'reduce sum(k: int; a: (int), b: (int)) -> (int, int) { let s = 0; for (x) in a { set s = add(s, x); } for (x) in b { set s = add(s, x); } emit(k, s); }'
+    'distance far(k: int; a: (int), b: (int)) { for (x) in a { for (y) in b { give(sub(y, x)); } } }'
+    'partition side(k: int) { give(ne(k, 1)); }'
+    'begin t;'
+    'step { state by same; table u by one; reduce sum; partition side; }'
+    'step { prev by same; table u round 2 by one; reduce least; partition side; }'
+)
+
+# whole NAME [NUMBER TEXT ..]: a row of the whole program, with these lines in place of its own.
+whole() {
+    row "whole by $by: $1"
+    shift
+    program whole_lines "$@"
+    put u.tsv '1\tab\n3\t\n'
+}
+
+# fault WHAT LINE NAME NUMBER TEXT ..: the whole program with these lines has this fault in line LINE.
+fault() {
+    local what=$1 line=$2
+    shift 2
+    whole "$@"
+    wrong "$line" "$what"
+}
+
+# numbered NUMBER FORM: as many pieces of this form, with their numbers.
+numbered() {
+    local number
+    for ((number = 1; number <= $1; number++)); do
+        printf "$2" "$number"
+    done
+}
+
+parameters() {
+    numbered "$1" ', v%d: int'
+}
+
+streams() {
+    numbered "$1" ', s%d: (int)'
+}
+
+partitions() {
+    numbered "$1" 'partition p%d(k: int) { }\\n'
+}
+
+later_steps() {
+    repeated "$1" 'step { prev by same; reduce least; }\n'
+}
+
+# Each rule of limits, of names in steps and of schemas, broken at its first and at its last place, and two of them
+# broken at once. The columns are WHAT, LINE and NAME, and then the numbers of lines with what stands in their place.
+fault_rows() {
+    local what line name changes lines number
+    local one=${whole_lines[6]} sum=${whole_lines[7]} side=${whole_lines[9]}
+    local ints_7 ints_8 ints_9
+    ints_7=int$(repeated 6 ', int')
+    ints_8="$ints_7, int"
+    ints_9="$ints_8, int"
+    while IFS='|' read -r what line name changes; do
+        [ -n "$what" ] || continue
+        IFS='|' read -ra lines <<<"$changes"
+        for ((number = 1; number < ${#lines[@]}; number += 2)); do
+            lines[number]+='\n'
+        done
+        fault "$what" "$line" "$name" "${lines[@]}"
+    done <<END
+limit|2|parts 0|2|parts 0;
+limit|2|parts 65|2|parts 65;
+limit|2|parts above 32 bits|2|parts 4294967298;
+limit|3|parts 65, the number in a line of its own|2|parts\n65\n;
+limit|3|rounds 0|3|rounds 0;
+limit|3|rounds 10001|3|rounds 10001;
+limit|3|rounds above 32 bits|3|rounds 4294967299;
+limit|4|rounds 10001, the number in a line of its own|3|rounds\n10001\n;
+limit|6|no kind in the first table|5|table\nt\n"t.tsv" ();
+limit|6|9 kinds in the first table|5|table\nt\n"t.tsv" ($ints_9);
+limit|7|no name of the first file|5|table\nt\n""\n(int, int);
+limit|7|no kind in the last table|6|table\nu\n"u.tsv" ();
+limit|7|9 kinds in the last table|6|table\nu\n"u.tsv" ($ints_9);
+limit|8|no name of the last file|6|table\nu\n""\n(int, text);
+limit|20|no name of the 16th file|6|table u "u.tsv" (int, text);\n$(tables 13)table z "" (int, int);
+limit|22|a 17th table|6|table u "u.tsv" (int, text);\n$(tables 14)table\nz\n"u.tsv" (int, int);
+limit|8|9 parameters of a map|7|map\none\n(k: int$(parameters 8)) -> (int, int) { }
+limit|9|no kind behind the arrow of a map|7|map one\n(k: int, v: text)\n->\n() { emit(); }
+limit|9|9 kinds behind the arrow of a map|7|map one\n(k: int, v: text)\n->\n($ints_9) { }
+limit|9|8 kinds in the first stream|8|reduce sum(k: int;\na\n: ($ints_8), b: (int)) -> (int, int) { }
+limit|9|8 kinds in the last stream|8|reduce sum(k: int; a: (int),\nb\n: ($ints_8)) -> (int, int) { }
+limit|9|8 kinds in the 8th stream|8|reduce sum(k: int; a: (int)$(streams 6),\nb\n: ($ints_8)) -> (int, int) { }
+limit|9|a 9th stream|8|reduce sum(k: int; a: (int)$(streams 7),\nb\n: (int)) -> (int, int) { }
+limit|9|no kind behind the arrow of a reduce|8|reduce sum(k: int; a: (int), b: (int))\n->\n() { }
+limit|9|9 kinds behind the arrow of a reduce|8|reduce sum(k: int; a: (int), b: (int))\n->\n($ints_9) { }
+limit|10|8 kinds in the old list of a distance|9|distance far(k: int;\na\n: ($ints_8), b: (int)) { }
+limit|10|8 kinds in the new list of a distance|9|distance far(k: int; a: (int),\nb\n: ($ints_8)) { }
+limit|71|no kind behind the arrow of the 64th function|10|$side\n$(partitions 59)map z(k: int)\n->\n() { }
+limit|72|a 65th function|10|$side\n$(partitions 60)partition\nz\n(k: int) { }
+limit|14|round 0 for the first table of a step|12|step { state by same; table u\nround\n0\nby one; reduce sum; partition side; }
+limit|14|round 10001|12|step { state by same; table u\nround\n10001\nby one; reduce sum; partition side; }
+limit|14|a round above 32 bits|12|step { state by same; table u\nround\n4294967298\nby one; reduce sum; partition side; }
+limit|15|round 0 for the last table of the last step|13|step { prev by same; table u by one; table u\nround\n0\nby one; reduce least; }
+limit|14|round 10001 for the 8th source of the last step|13|step { prev by same;$(repeated 6 ' table t by same;') table t\nround 10001 by same; reduce least; }
+limit|13|a 9th source of the first step|12|step { state by same;$(repeated 7 ' table t by same;') table\nt\nby same; reduce least; }
+limit|14|a 9th source of the last step|13|step { prev by same;$(repeated 7 ' table t by same;') table\nt\nby same; reduce least; }
+limit|20|a 9th step|13|$(later_steps 7)step\n{ prev by same; reduce least; }
+limit|2|parts before rounds|2|parts 0;|3|rounds 0;
+limit|3|rounds before tables|3|rounds 0;|5|table t "" ();
+limit|6|the kinds of a table before the name of its file|5|table\nt\n""\n();
+limit|5|the name of a file before the next table|5|table t "" (int, int);|6|table u "u.tsv" ();
+limit|5|the name of a file before a 17th table|5|table t "" (int, int);|6|table u "u.tsv" (int, text);\n$(tables 15)
+limit|22|a 17th table before the name of its file|6|table u "u.tsv" (int, text);\n$(tables 14)table\nz\n""\n();
+limit|6|tables before functions|6|table u "" (int, text);|7|map one(k: int, v: text) -> () { }
+limit|7|parameters before the arrow|7|map one(k: int$(parameters 8))\n->\n() { }
+limit|9|the kinds of a stream before a 9th stream|8|reduce sum(k: int;\na: ($ints_8)$(streams 7),\nb: (int)) -> (int, int) { }
+limit|9|a 9th stream before the arrow|8|reduce sum(k: int; a: (int)$(streams 7),\nb: ($ints_8))\n->\n() { }
+limit|10|the old list of a distance before the new one|9|distance far(k: int;\na: ($ints_8),\nb: ($ints_8)) { }
+limit|8|a function before a 65th function|8|reduce sum(k: int; a: (int), b: (int)) -> () { }|10|$side\n$(partitions 61)
+limit|9|functions before steps|9|distance far(k: int; a: ($ints_8), b: (int)) { }|12|step { state by same; table u round 0 by one; reduce sum; }
+limit|13|a round before a 9th source|12|step { state by same;\ntable u round 0 by one;$(repeated 6 ' table u by one;')\ntable u by one; reduce sum; }
+limit|13|a 9th source before its round|12|step { state by same;$(repeated 7 ' table u by one;') table\nu\nround 0 by one; reduce sum; }
+limit|12|the round of a step before a 9th step|12|step { state by same; table u round 0 by one; reduce sum; }|13|$(later_steps 8)
+limit|20|a 9th step before its round|13|$(later_steps 7)step\n{ prev by same; table u round 0 by one; reduce least; }
+unknown-name|6|no such distance|4|stop below 5\nby\nnear;
+unknown-name|4|a map as the distance|4|stop below 5 by one;
+unknown-name|4|a reduce as the distance|4|stop below 5 by sum;
+unknown-name|4|a partition as the distance|4|stop below 5 by side;
+unknown-name|4|a predefined map as the distance|4|stop below 5 by same;
+unknown-name|4|a predefined reduce as the distance|4|stop below 5 by least;
+unknown-name|4|a table as the distance|4|stop below 5 by t;
+unknown-table|12|no such table at the beginning|11|begin\nw;
+unknown-table|11|a longer name at the beginning|11|begin tt;
+unknown-table|11|a function at the beginning|11|begin one;
+unknown-table|11|the program at the beginning|11|begin whole;
+unknown-name|13|no such map for the state|12|step { state by\nnone; table u by one; reduce sum; partition side; }
+unknown-name|14|no such map for the output before|13|step { prev by\nnone; table u by one; reduce least; partition side; }
+unknown-name|13|no such map for the first table|12|step { state by same; table u by\nnone; reduce sum; partition side; }
+unknown-name|15|no such map for the last table|13|step { prev by same; table u by one; table u round 2\nby\nnone; reduce least; partition side; }
+unknown-name|12|a reduce as a map|12|step { state by sum; table u by one; reduce sum; partition side; }
+unknown-name|12|a distance as a map|12|step { state by far; table u by one; reduce sum; partition side; }
+unknown-name|12|a partition as a map|12|step { state by side; table u by one; reduce sum; partition side; }
+unknown-name|13|each predefined reduce as a map: least|13|step { prev by least; table u by one; reduce least; }
+unknown-name|13|each predefined reduce as a map: every|13|step { prev by every; table u by one; reduce least; }
+unknown-name|13|each predefined reduce as a map: hop|13|step { prev by hop; table u by one; reduce least; }
+unknown-name|12|an operation as a map|12|step { state by add; table u by one; reduce sum; partition side; }
+unknown-name|12|a longer name of a predefined map|12|step { state by same1; table u by one; reduce sum; partition side; }
+unknown-table|13|no such table in the first step|12|step { state by same; table\nw by one; reduce sum; partition side; }
+unknown-table|14|no such table in the last step|13|step { prev by same; table u by one; table\nw round 2 by one; reduce least; partition side; }
+unknown-table|12|a function as a table|12|step { state by same; table one by one; reduce sum; partition side; }
+unknown-name|13|no such reduce in the first step|12|step { state by same; table u by one; reduce\nmost; partition side; }
+unknown-name|14|no such reduce in the last step|13|step { prev by same; table u by one; reduce\nmost; partition side; }
+unknown-name|12|a map as a reduce|12|step { state by same; table u by one; reduce one; partition side; }
+unknown-name|12|a distance as a reduce|12|step { state by same; table u by one; reduce far; partition side; }
+unknown-name|12|a partition as a reduce|12|step { state by same; table u by one; reduce side; partition side; }
+unknown-name|13|the predefined map as a reduce|13|step { prev by same; table u by one; reduce same; }
+unknown-name|13|no such partition in the first step|12|step { state by same; table u by one; reduce sum; partition\nnone; }
+unknown-name|14|no such partition in the last step|13|step { prev by same; table u by one; reduce least; partition\nnone; }
+unknown-name|12|a map as a partition|12|step { state by same; table u by one; reduce sum; partition one; }
+unknown-name|12|a reduce as a partition|12|step { state by same; table u by one; reduce sum; partition sum; }
+unknown-name|12|a distance as a partition|12|step { state by same; table u by one; reduce sum; partition far; }
+unknown-name|13|a predefined function as a partition|13|step { prev by same; table u by one; reduce least; partition same; }
+unknown-name|4|the distance before the beginning|4|stop below 5 by near;|11|begin w;
+unknown-table|11|the beginning before the steps|11|begin w;|12|step { state by none; reduce sum; }
+unknown-name|13|the map of the state before a table|12|step { state by\nnone;\ntable w by one; reduce sum; }
+unknown-table|13|a table before its map|12|step { state by same;\ntable w\nby none; reduce sum; }
+unknown-name|13|the map of a table before the next table|12|step { state by same;\ntable u by none;\ntable w by one; reduce sum; }
+unknown-table|13|a table before the reduce|12|step { state by same;\ntable w by one;\nreduce most; }
+unknown-name|13|the reduce before the partition|12|step { state by same; table u by one;\nreduce most;\npartition none; }
+unknown-name|12|a step before the next one|12|step { state by same; table u by one; reduce sum; partition none; }|13|step { prev by none; reduce least; }
+schema-mismatch|13|the map of the state|12|step { state by\none; table u by one; reduce sum; partition side; }
+schema-mismatch|14|the map of the output before|13|step { prev by\none; table u by one; reduce least; partition side; }
+schema-mismatch|13|the map of the first table|12|step { state by same; table t by\none; reduce sum; partition side; }
+schema-mismatch|15|the map of the last table|13|step { prev by same; table u by one; table t round 2\nby\none; reduce least; partition side; }
+schema-mismatch|12|a map of too few parameters|7|map one(k: int) -> (int, int) { }
+schema-mismatch|12|a map of too many parameters|7|map one(k: int, v: text, w: text) -> (int, int) { }
+schema-mismatch|12|a map of another key|7|map one(k: text, v: text) -> (int, int) { }
+schema-mismatch|12|a map of another field|7|map one(k: int, v: int) -> (int, int) { }
+schema-mismatch|13|another key in the second stream|7|map one(k: int, v: text) -> (text, int) { }|12|step { state by same; table u by\none; reduce sum; partition side; }
+schema-mismatch|14|another key in the last stream|7|$one map two(k: int, v: text) -> (text, int) { }|13|step { prev by same; table u by one; table u by\ntwo; reduce least; }
+schema-mismatch|13|a reduce of another key|8|reduce sum(k: text; a: (int), b: (int)) -> (int, int) { }|12|step { state by same; table u by one; reduce\nsum; partition side; }
+schema-mismatch|12|a reduce of too few streams|8|reduce sum(k: int; a: (int)) -> (int, int) { }
+schema-mismatch|12|a reduce of too many streams|8|reduce sum(k: int; a: (int), b: (int), c: (int)) -> (int, int) { }
+schema-mismatch|12|a reduce of another first stream|8|reduce sum(k: int; a: (text), b: (int)) -> (int, int) { }
+schema-mismatch|12|a reduce of another last stream|8|reduce sum(k: int; a: (int), b: (text)) -> (int, int) { }
+schema-mismatch|12|a field too many in the first stream|8|reduce sum(k: int; a: (int, int), b: (int)) -> (int, int) { }
+schema-mismatch|12|a field too few in the last stream|8|reduce sum(k: int; a: (int), b: ()) -> (int, int) { }
+schema-mismatch|14|a reduce of the program in the last step|13|step { prev by same; reduce\nsum; }
+schema-mismatch|14|least of two schemas|13|step { prev by same; table u by same; reduce\nleast; }
+schema-mismatch|14|least of two numbers of fields|7|$one map two(k: int, v: text) -> (int) { }|13|step { prev by same; table u by two; reduce\nleast; }
+schema-mismatch|14|every, with another last stream|13|step { prev by same; table t by same; table u by same; reduce\nevery; }
+schema-mismatch|13|hop of one source|12|step { state by same; reduce\nhop; partition side; }
+schema-mismatch|13|hop of three sources|12|step { state by same; table t by same; table t by same; reduce\nhop; partition side; }
+schema-mismatch|13|hop from a text|11|begin u;|12|step { state by same; table t by same; reduce\nhop; partition side; }
+schema-mismatch|13|hop from no field|7|$one map two(k: int, v: int) -> (int) { }|12|step { state by two; table t by same; reduce\nhop; partition side; }
+schema-mismatch|13|hop from two fields|7|$one map two(k: int, v: int) -> (int, int, int) { }|12|step { state by two; table t by same; reduce\nhop; partition side; }
+schema-mismatch|13|hop to no field|7|$one map two(k: int, v: int) -> (int) { }|12|step { state by same; table t by two; reduce\nhop; partition side; }
+schema-mismatch|13|hop to two fields|7|$one map two(k: int, v: int) -> (int, int, int) { }|12|step { state by same; table t by two; reduce\nhop; partition side; }
+schema-mismatch|14|hop of one source in the last step|13|step { prev by same; reduce\nhop; }
+schema-mismatch|13|a partition of another key|10|partition side(k: text) { }|12|step { state by same; table u by one; reduce sum; partition\nside; }
+schema-mismatch|14|a partition of another key in the last step|10|$side partition left(k: text) { }|13|step { prev by same; table u by one; reduce least; partition\nleft; }
+schema-mismatch|14|a last output of another key|8|$sum reduce end(k: int; a: (int)) -> (text, int) { }|13|step { prev by same; reduce\nend; partition side; }
+schema-mismatch|14|a last output of another field|8|$sum reduce end(k: int; a: (int)) -> (int, text) { }|13|step { prev by same; reduce\nend; partition side; }
+schema-mismatch|14|a last output of too many fields|8|$sum reduce end(k: int; a: (int)) -> (int, int, int) { }|13|step { prev by same; reduce\nend; partition side; }
+schema-mismatch|14|a last output of too few fields|8|$sum reduce end(k: int; a: (int)) -> (int) { }|13|step { prev by same; reduce\nend; partition side; }
+schema-mismatch|13|an output of the only step|8|reduce sum(k: int; a: (int), b: (int)) -> (int, text) { }|12|step { state by same; table u by one; reduce\nsum; partition side; }|13|#
+schema-mismatch|14|a last output of a predefined reduce|7|$one map two(k: int, v: int) -> (int, text) { }|13|step { prev by two; reduce\nleast; }
+schema-mismatch|14|a last output of hop|13|step { prev by same; table u by same; reduce\nhop; }
+schema-mismatch|6|a distance of another key|4|stop below 5\nby\nfar;|9|distance far(k: text; a: (int), b: (int)) { }
+schema-mismatch|4|a distance of another old list|9|distance far(k: int; a: (text), b: (int)) { }
+schema-mismatch|4|a distance of another new list|9|distance far(k: int; a: (int), b: (text)) { }
+schema-mismatch|4|a distance of too many fields|9|distance far(k: int; a: (int, int), b: (int)) { }
+schema-mismatch|4|a distance of too few fields|9|distance far(k: int; a: (int), b: ()) { }
+schema-mismatch|13|the key of a stream before the next map|7|map one(k: int, v: text) -> (text, int) { }|12|step { state by same;\ntable u by one;\ntable t by one; reduce sum; }
+schema-mismatch|13|a map before the reduce|12|step { state by same;\ntable t by one;\nreduce hop; partition side; }
+schema-mismatch|13|the reduce before the partition|8|reduce sum(k: int; a: (int)) -> (int, int) { }|10|partition side(k: text) { }|12|step { state by same; table u by one;\nreduce sum;\npartition side; }
+schema-mismatch|12|a step before the next one|8|reduce sum(k: int; a: (int)) -> (int, int) { }|13|step { prev by one; reduce least; }
+schema-mismatch|15|the partition of the last step before its output|8|$sum reduce end(k: int; a: (int)) -> (int, text) { }|10|$side partition left(k: text) { }|13|step { prev by same;\nreduce end;\npartition left; }
+schema-mismatch|14|the last output before the distance|8|$sum reduce end(k: int; a: (int)) -> (int, text) { }|9|distance far(k: text; a: (int), b: (int)) { }|13|step { prev by same;\nreduce end; }
+syntax|13|syntax before kinds|10|partition side(k: int) { give("a"); }|13|step { prev by same; reduce; }
+syntax|13|syntax before limits|2|parts 65;|13|step { prev by same; reduce; }
+syntax|13|syntax before names|4|stop below 5 by near;|13|step { prev by same; reduce; }
+syntax|13|syntax before schemas|12|step { state by one; reduce sum; }|13|step { prev by same; reduce; }
+double-name|6|names of tables before limits|2|parts 65;|6|table t "u.tsv" (int, text);
+wrong-kind|10|kinds before limits|2|parts 65;|10|partition side(k: int) { give("a"); }
+wrong-kind|10|kinds before names|4|stop below 5 by near;|10|partition side(k: int) { give("a"); }
+wrong-kind|10|kinds before schemas|9|distance far(k: text; a: (int), b: (int)) { }|10|partition side(k: int) { give("a"); }
+limit|13|limits before names|4|stop below 5 by near;|13|step { prev by same; table u round 0 by one; reduce least; }
+limit|13|limits before tables that are not there|11|begin w;|13|step { prev by same; table u round 0 by one; reduce least; }
+limit|13|limits before schemas|12|step { state by one; reduce sum; }|13|step { prev by same; table u round 0 by one; reduce least; }
+unknown-name|13|names before schemas|12|step { state by one; reduce sum; }|13|step { prev by same; reduce most; }
+unknown-name|13|names before the schema of the distance|9|distance far(k: text; a: (int), b: (int)) { }|13|step { prev by same; reduce least; partition none; }
+unknown-table|13|tables that are not there before schemas|12|step { state by one; reduce sum; }|13|step { prev by same; table w by one; reduce least; }
+END
+    fault limit 21 '20,000 tables' 6 "${whole_lines[5]}\n$(tables 20000)"
+    fault limit 13 '30,000 sources' 13 "step { prev by same;$(repeated 30000 ' table t by same;') reduce least; }\n"
+    fault limit 20 '20,000 steps' 13 "$(later_steps 20000)"
+    fault limit 71 '10,000 functions' 10 "$side\n$(partitions 10000)"
+}
+
+# What is accepted, up to the limits.
+whole_rows() {
+    whole 'as it is'
+    chain 2 close '1\t2\n' '2\t10\n3\t0\n'
+
+    whole 'the caches' 4 "${whole_lines[3]} cache reducer_input; cache reducer_output; cache mapper_input;\n"
+    chain 2 close '1\t2\n' '2\t10\n3\t0\n'
+
+    whole 'a table with the name of a function' 5 'table one "t.tsv" (int, int);\n' 11 'begin one;\n'
+    chain 2 close '1\t2\n' '2\t10\n3\t0\n'
+
+    whole '64 functions' 10 "${whole_lines[9]}\n$(partitions 60)"
+    chain 2 close '1\t2\n' '2\t10\n3\t0\n'
+
+    whole '16 tables' 6 "${whole_lines[5]}\n$(tables 14)"
+    put start.tsv ''
+    chain 2 close '1\t2\n' '2\t10\n3\t0\n'
+
+    whole 'a table in round 10000' 13 "${whole_lines[12]/round 2/round 10000}\n"
+    chain 2 close '1\t9\n' '2\t10\n3\t0\n'
+
+    whole 'a table in round 1' 13 "${whole_lines[12]/round 2/round 1}\n"
+    chain 2 close '1\t4\n' '2\t10\n3\t0\n'
+
+    whole 'a table without records in the only step that reads it'
+    put u.tsv ''
+    chain 2 close '1\t5\n' '2\t10\n'
+
+    row "whole by $by: records of 8 values, in 8 streams"
+    local names=b,c,d,e,f,g,h number text
+    text='program wide; parts 1; rounds 1; stop exact;\n'
+    text+='table t "t.tsv" (text, int, int, int, int, int, int, int);\n'
+    text+='map turned(k: text, b: int, c: int, d: int, e: int, f: int, g: int, h: int) -> '
+    text+='(text, int, int, int, int, int, int, int) { emit(k, h, g, f, e, d, c, b); }\n'
+    text+='reduce all(k: text; s1: (int, int, int, int, int, int, int)'
+    for number in {2..8}; do
+        text+=", s$number: (int, int, int, int, int, int, int)"
+    done
+    text+=') -> (text, int, int, int, int, int, int, int) {\n'
+    for number in 8 1; do
+        text+="for ($names) in s$number { emit(k, $names); }\n"
+    done
+    text+="}\nbegin t;\nstep { state by same;$(repeated 7 ' table t by turned;') reduce all; }\n"
+    put p.hal "$text"
+    put t.tsv 'x\t1\t2\t3\t4\t5\t6\t7\n'
+    chain 1 limit 'x\t7\t6\t5\t4\t3\t2\t1\nx\t1\t2\t3\t4\t5\t6\t7\n'
+}
+
+# The program that follows links, with the caches that it asks for.
+cached_rows() {
+    local caches='stop exact;\ncache reducer_input;\ncache reducer_output;\n'
+
+    hops_row 'with caches: two links'
+    hops 4 "$caches"
+    chain 3 fixpoint "${two_links[@]}"
+
+    hops_row 'with caches: an empty start'
+    hops 4 "$caches"
+    put start.tsv ''
+    chain 2 fixpoint '' ''
+
+    hops_row 'with caches: one round'
+    hops 3 'rounds 1;\n' 4 "$caches"
+    chain 1 limit '2\t1\n' '1\t0\n'
+
+    hops_row 'with caches: keys of the table alone, and a reduce that emits other keys'
+    hops 3 'rounds 2;\n' 4 "$caches" \
+        6 "${hops_lines[5]}\nreduce count(k: int; s: (int), t: (int)) -> (int, int) { let n = 0; for (x) in t { set n = add(n, 1); } emit(add(k, 10), n); }\n" \
+        8 'step { state by same; table links by same; reduce count; }\n' 9 ''
+    put start.tsv '9\t0\n'
+    put links.tsv '1\t2\n1\t3\n4\t1\n'
+    chain 2 limit '14\t1\n24\t0\n' '11\t2\n21\t0\n29\t0\n'
+
+    hops_row 'with caches: parts 65'
+    hops 2 'parts 65;\n' 4 "$caches"
+    wrong 2 limit
+
+    hops_row 'with caches: another table at the beginning'
+    hops 4 "$caches" 7 'begin begun;\n'
+    wrong 9 unknown-table
+
+    row "stamp by $by: a map that uses the round"
+    form 3 'rounds 2;\n' 4 'stop exact;\ncache reducer_input;\ncache mapper_input;\n' \
+        5 "${form_lines[4]}\nmap late(k: int, v: int) -> (int, int) { emit(k, add(v, round)); }\n" \
+        7 'step { state by same; table t by late; reduce least; }\n'
+    put t.tsv '1\t5\n'
+    chain 2 fixpoint '1\t5\n'
+
+    row "once by $by: a table that is read in round 2 alone"
+    form 3 'rounds 3;\n' 5 "${form_lines[4]}\ntable x \"x.tsv\" (int, int);\n" \
+        7 'step { state by same; table x round 2 by same; reduce least; }\n'
+    put t.tsv '1\t9\n'
+    put x.tsv '1\t4\n'
+    chain 3 fixpoint '1\t4\n'
+}
+
+# own NAME FUNCTIONS [NUMBER TEXT ..]: a row of the job of one step, with these functions and lines.
+own() {
+    local functions=$2
+    row "own by $by: $1"
+    shift 2
+    form 6 "$functions\n${form_lines[5]}\n" "$@"
+}
+
+# counted NAME DISTANCE ROUNDS BELOW END WORD: key 1 goes from 0 to 1, 2 and so on, key 2 to -1, -2 and so on. With this
+# distance, rounds and threshold the rounds end in round END with this word.
+counted() {
+    own "a distance: $1" \
+        "reduce on(k: int; s: (int)) -> (int, int) { for (x) in s { emit(k, add(x, pick(eq(k, 1), 1, -1))); } }\n$2" \
+        3 "rounds $3;\n" 4 "stop below $4 by d;\n" 7 'step { state by same; reduce on; }\n'
+    put t.tsv '1\t0\n2\t0\n'
+    chain "$5" "$6" "1\t$5\n2\t-$5\n"
+}
+
+own_rows() {
+    local head='distance d(k: int; a: (int), b: (int))'
+    local grown="$head { for (x) in a { for (y) in b { give(sub(y, x)); } } }"
+    counted 'equal to the threshold' "$grown" 3 1 3 limit
+    counted 'below the threshold' "$grown" 3 2 2 close
+    counted 'none in the first round' "$grown" 1 2 1 limit
+    counted 'never below 0' "$head { }" 3 0 3 limit
+    counted 'nothing given' "$head { }" 4 1 2 close
+    counted 'below the threshold in the last round' "$head { for (y) in b { give(sub(9, y)); } }" 4 17 4 limit
+    counted 'less in each round' "$head { for (y) in b { give(sub(9, mul(y, y))); } }" 9 1 3 close
+    counted 'up to the greatest number' "$head { give($greatest); }" 4 "$greatest" 4 limit
+    counted 'a negative one, and the threshold' "$head { give(pick(eq(k, 1), 5, -5)); }" 4 5 4 limit
+    counted 'a negative one' "$head { give(pick(eq(k, 1), 5, -5)); }" 4 6 2 close
+    counted 'the last that is given' "$head { give(7); give(0); }" 4 1 2 close
+
+    # Each key of either round counts once, with an empty list where it has none.
+    local below
+    for below in 101 102; do
+        own "a distance of keys that come and go, below $below" \
+            "reduce on(k: int; s: (int)) -> (int, int) { for (x) in s { emit(add(k, 1), x); } }\n$head { let n = 0; for (x) in a { set n = add(n, 100); } for (x) in b { set n = add(n, 1); } give(n); }" \
+            3 'rounds 3;\n' 4 "stop below $below by d;\n" 7 'step { state by same; reduce on; }\n'
+        put t.tsv '1\t0\n'
+        if [ "$below" -eq 101 ]; then
+            chain 3 limit '4\t0\n'
+        else
+            chain 2 close '3\t0\n'
+        fi
+    done
+
+    # Round 1 emits -1 and -4, round 2 emits 4 and 1. The distance is 10 times the last of the new list, and the last of
+    # the old one: 40 - 1.
+    for below in 40 39; do
+        own "a distance of sorted lists, below $below" \
+            "reduce on(k: int; s: (int)) -> (int, int) { for (x) in s { emit(k, sub(0, x)); } }\n$head { let n = 0; for (x) in a { set n = x; } for (y) in b { give(add(mul(y, 10), n)); } }" \
+            3 'rounds 3;\n' 4 "stop below $below by d;\n" 7 'step { state by same; reduce on; }\n'
+        put t.tsv '1\t4\n1\t1\n'
+        if [ "$below" -eq 40 ]; then
+            chain 2 close '1\t4\n1\t1\n'
+        else
+            chain 3 close '1\t-1\n1\t-4\n'
+        fi
+    done
+
+    # The lists of a key are those of all parts.
+    own 'a distance of keys that change their part' \
+        "$head { let n = 0; for (x) in a { set n = add(n, 1); } for (y) in b { set n = sub(n, 1); } give(mul(n, n)); }\npartition turn(k: int) { give(add(k, round)); }" \
+        2 'parts 2;\n' 3 'rounds 3;\n' 4 'stop below 1 by d;\n' 7 'step { state by same; reduce least; partition turn; }\n'
+    chain 2 close '2\t3\n' '1\t5\n'
+
+    own 'a distance of a key in two parts' \
+        "reduce zero(k: int; s: (int)) -> (int, int) { for (x) in s { emit(0, x); } }\n$head { let n = 0; for (x) in a { for (y) in b { set n = add(n, 1); } } give(n); }" \
+        2 'parts 2;\n' 3 'rounds 2;\n' 4 'stop below 4 by d;\n' 7 'step { state by same; reduce zero; }\n'
+    put t.tsv '1\t5\n2\t6\n'
+    chain 2 limit '0\t5\n0\t6\n' ''
+
+    own 'records in the part of the key for which reduce was called' \
+        'reduce on(k: int; s: (int)) -> (int, int) { for (x) in s { emit(add(k, 1), x); } }' \
+        2 'parts 2;\n' 7 'step { state by same; reduce on; }\n'
+    chain 1 limit '3\t3\n3\t7\n' '2\t5\n'
+
+    own 'a partition of negative numbers' 'partition back(k: int) { give(sub(0, k)); }' \
+        2 'parts 3;\n' 7 'step { state by same; reduce least; partition back; }\n'
+    put t.tsv "1\t0\n2\t0\n3\t0\n-1\t0\n-9223372036854775808\t0\n"
+    chain 1 limit '3\t0\n' '-9223372036854775808\t0\n-1\t0\n2\t0\n' '1\t0\n'
+
+    own 'a partition that gives nothing' 'partition none(k: int) { if (eq(k, 2)) { give(1); give(2); } }' \
+        2 'parts 3;\n' 7 'step { state by same; reduce least; partition none; }\n'
+    chain 1 limit '1\t5\n' '' '2\t3\n'
+
+    own 'a partition that uses the round' 'partition turn(k: int) { give(add(k, round)); }' \
+        2 'parts 2;\n' 3 'rounds 5;\n' 7 'step { state by same; reduce least; partition turn; }\n'
+    chain 2 fixpoint '2\t3\n' '1\t5\n'
+
+    own 'a reduce that uses the round, and a partition in the first step alone' \
+        'reduce on(k: int; s: (int)) -> (int, int) { for (x) in s { emit(k, add(x, round)); } }
+partition one(k: int) { give(1); }' \
+        2 'parts 2;\n' 3 'rounds 3;\n' 7 'step { state by same; reduce on; partition one; } step { prev by same; reduce every; }\n'
+    chain 3 limit '2\t9\n2\t13\n' '1\t11\n'
+
+    own 'a map that emits nothing, and one that emits twice' \
+        'map odd(k: int, v: int) -> (int, int) { if (rem(k, 2)) { emit(k, v); emit(v, k); } }' \
+        7 'step { state by odd; reduce every; }\n'
+    chain 1 limit '1\t5\n5\t1\n'
+
+    own 'groups that are sorted and keep repeats' \
+        'reduce first(k: int; s: (int)) -> (int, int) { let n = 0; for (x) in s { set n = add(mul(n, 10), x); } emit(k, n); }' \
+        7 'step { state by same; reduce first; }\n'
+    put t.tsv '1\t3\n1\t1\n1\t2\n1\t3\n'
+    chain 1 limit '1\t1233\n'
+
+    own 'a table that is read in two rounds, by two maps' \
+        'map named(k: text, v: int) -> (int, int) { emit(v, len(k)); }\nmap late(k: text, v: int) -> (int, int) { emit(v, mul(round, 100)); }' \
+        3 'rounds 2;\n' 5 "${form_lines[4]}\ntable u \"u.tsv\" (text, int);\n" \
+        7 'step { state by same; table u round 1 by named; table u round 2 by late; reduce every; }\n'
+    put t.tsv '1\t5\n'
+    put u.tsv 'abc\t1\n'
+    chain 2 limit '1\t3\n1\t5\n1\t200\n'
+
+    own 'parts of texts' '' 2 'parts 64;\n' 5 'table t "t.tsv" (text, text);\n'
+    put t.tsv 'ab\t\nab\t \n\tempty\n'
+    local parts=() number
+    for number in {0..63}; do
+        parts[number]=''
+    done
+    parts[0]='\tempty\n'
+    parts[33]='ab\t\n'
+    chain 1 limit "${parts[@]}"
+
+    # The number of a text goes round at 32 bits.
+    own 'parts of long texts' '' 2 'parts 7;\n' 5 'table t "t.tsv" (text);\n'
+    put t.tsv 'a long text of many bytes\nhadoop\niteration\n'
+    chain 1 limit '' 'a long text of many bytes\n' 'iteration\n' '' '' 'hadoop\n' ''
+
+    own 'texts in their order, digits and capitals first' '' 5 'table t "t.tsv" (text, text);\n' \
+        7 'step { state by same; reduce every; }\n'
+    put t.tsv 'b\t2\na\t10\nB\t9\nab\t\\\\"\na\t9\n9\t\n10\tx\n'
+    chain 1 limit '10\tx\n9\t\nB\t9\na\t10\na\t9\nab\t\\\\"\nb\t2\n'
+
+    own 'texts that are joined and cut' \
+        'map m(k: text, v: int) -> (text, int) { emit(cat(k, "\\"\\\\"), len(k)); emit(cut(k, 1, 2), num(k)); emit(txt(v), v); }' \
+        5 'table t "t.tsv" (text, int);\n' 7 'step { state by m; reduce every; }\n'
+    put t.tsv '-123\t-7\n'
+    chain 1 limit '-123"\\\t4\n-7\t-7\n12\t-123\n'
+
+    local text_255
+    text_255=$(printf 't%.0s' {1..255})
+    own 'a text of 255 bytes, and no more when joined' 'map m(k: text) -> (text) { emit(cat(k, "more")); }' \
+        5 'table t "t.tsv" (text);\n' 7 'step { state by m; reduce least; }\n'
+    put t.tsv "$text_255\n"
+    chain 1 limit "$text_255\n"
+
+    own 'a table of texts: 256 bytes' '' 5 'table t "t.tsv" (text, text);\n'
+    put t.tsv "a\tb\n${text_255}t\tb\n"
+    faulty t '2: bad-text 0'
+    put t.tsv "a\tb\n${text_255}\t${text_255}t\n"
+    faulty t '2: bad-text 1'
+
+    own 'a table of texts: bytes that do not print' '' 5 'table t "t.tsv" (text, text);\n'
+    put t.tsv 'a\tb\nc\td\0177\n'
+    faulty t '2: bad-text 1'
+    put t.tsv 'a\tb\nc\r\td\n'
+    faulty t '2: bad-text 0'
+    put t.tsv '\0303\0251\tb\n'
+    faulty t '1: bad-text 0'
+
+    own 'a table of a text and a number: the first fault from the left' '' 5 'table t "t.tsv" (int, text, int);\n'
+    put t.tsv '1\ta\t2\n1\t\0001\tx\n'
+    faulty t '2: bad-text 1'
+    put t.tsv '1\ta\t2\n1\tb\tx\n'
+    faulty t '2: bad-number 2'
+    put t.tsv '1\ta\n'
+    faulty t '1: field-count'
+
+    own 'a table of keys alone' '' 5 'table t "t.tsv" (text);\n'
+    put t.tsv 'b\n\t\n'
+    faulty t '2: field-count'
+    put t.tsv 'b\n\na\nb\n'
+    chain 1 limit '\na\nb\n'
 }
 
 for by in run plain; do
     chain_rows
+    cached_rows
     table_rows
     program_rows
+    whole_rows
+    own_rows
+    fault_rows
 done
 
 # What the two commands do not share.
@@ -1230,14 +1701,40 @@ usage_row 'plain with an empty folder' plain p.hal ''
 usage_row 'a capital letter in plain' Plain p.hal out
 usage_row 'a longer plain' plains p.hal out
 
-row 'the example of hops'
-cp -r "$top/examples" .
-call run examples/hops/reports.hal examples/hops/one-node.txt out
-wants 0 'rounds 5\nend fixpoint\n'
-diff -r examples/hops/expected out >/dev/null || is_wrong 'the part files of run are not the expected ones'
-call plain examples/hops/reports.hal plain
-wants 0 'rounds 5\nend fixpoint\n'
-diff -r examples/hops/expected plain >/dev/null || is_wrong 'the part files of plain are not the expected ones'
+# example NAME FILE ROUNDS WORD: the example of this folder and program says so by both commands, and leaves the
+# expected part files.
+example() {
+    row "the example of $1"
+    cp -r "$top/examples" .
+    call run "examples/$1/$2" "examples/$1/one-node.txt" out
+    wants 0 "rounds $3\nend $4\n"
+    diff -r "examples/$1/expected" out >/dev/null || is_wrong 'the part files of run are not the expected ones'
+    call plain "examples/$1/$2" plain
+    wants 0 "rounds $3\nend $4\n"
+    diff -r "examples/$1/expected" plain >/dev/null || is_wrong 'the part files of plain are not the expected ones'
+}
+
+example one-job least.hal 1 limit
+example hops reports.hal 5 fixpoint
+example ranks rank.hal 3 close
+example components components.hal 5 fixpoint
+example paths paths.hal 6 fixpoint
+example words words.hal 1 limit
+
+row 'each example is run'
+for folder in "$top"/examples/*/; do
+    grep -q "^example $(basename "$folder") " "$top/tests/rows.sh" || is_wrong "no row runs $folder"
+done
+
+row 'the faults that docs/LANGUAGE.md shows'
+faults=$(sed -n 's/^| \([0-9]*\) | `\(.*\)` | `\(.*\)` |$/\1|\2|\3/p' "$top/docs/LANGUAGE.md")
+[ -n "$faults" ] || is_wrong 'there are none'
+while IFS='|' read -r number line what; do
+    head -n "$((number - 1))" "$top/examples/hops/reports.hal" >p.hal
+    printf '%s\n' "$line" >>p.hal
+    tail -n "+$((number + 1))" "$top/examples/hops/reports.hal" >>p.hal
+    wrong "$number" "$what"
+done <<<"$faults"
 
 row 'the examples of the language are tested'
 (cd "$top" && sh tests/examples.sh >/dev/null) || is_wrong 'tests/examples.sh finds one that is not'

@@ -389,8 +389,8 @@ fn main() {
     let next = lexer.token();
     match (Parser { lexer, next }).program() {
         Ok(functions) => {
-            println!("error: form not built");
-            process::exit(if functions.is_empty() { 0 } else { 12 });
+            println!("error: file t.tsv absent");
+            process::exit(if functions.is_empty() { 0 } else { 11 });
         }
         Err(line) => {
             println!("error: program line {line}: syntax");

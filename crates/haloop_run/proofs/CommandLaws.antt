@@ -1,5 +1,5 @@
 -- From what the steps of a command found and left, what the command came to.
-use Rattle.std.proofs.Common.{◌≡◌, ℕ, List, Option, None, Some, sym, ap, subst, inl, inr, [], ◌∷◌, ◌≤◌, length, arith, map as each}
+use Rattle.std.proofs.Common.{◌≡◌, ℕ, List, Option, None, Some, sym, ap, subst, inl, inr, map as each}
 use Rattle.std.specs.Option.{IfSome}
 use Rattle.hal_base.specs.declared.record.Record.{Record}
 use Rattle.hal_base.specs.declared.shape.Shape.{Shape}
@@ -8,44 +8,40 @@ use Rattle.hal_base.specs.Lines.{table_text}
 use Rattle.hal_outside.specs.Told.{FileMap}
 use Rattle.plain_job.specs.declared.chain.PlainChain.{PlainChain}
 use Rattle.plain_job.specs.Ends.{IsChain}
-use Rattle.plain_job.specs.Plain.{FewSteps, IsPlainChain, ending_of}
-use Rattle.program_form.specs.declared.form.Form.{Form}
-use Rattle.program_form.specs.declared.form.StepForm.{StepForm}
-use Rattle.program_form.specs.declared.form.TableForm.{TableForm}
-use Rattle.program_form.specs.Forms.{KeepsRules}
-use Rattle.program_form.specs.Shapes.{meaning_of, shape_of, steps_of}
-use Rattle.program_form.proofs.ShapeLaws.{form_has_few_steps}
+use Rattle.plain_job.specs.Plain.{IsPlainChain, ending_of}
+use Rattle.loop_program.specs.Whole.{Whole}
 use Rattle.haloop_run.specs.declared.refusal.Refusal.{Refusal}
 use Rattle.haloop_run.specs.declared.refusal.Refusal.TheVariants as refusal
 use Rattle.haloop_run.specs.declared.run.Ended.{Ended}
 use Rattle.haloop_run.specs.Words.{Asked}
 use Rattle.haloop_run.specs.Inputs.{accepted, ComesTo}
+use Rattle.haloop_run.specs.Meanings.{meaning_of}
 use Rattle.haloop_run.specs.Outputs.{LeavesPart, OnTold}
 use Rattle.haloop_run.specs.Steps.{Judged, Refused, Written, WrittenPart, WriteRefused, CommandDone, CommandRefused}
 
 texts_of : (m : Meaning) (shape : Shape) (tables : List (List Record)) (chain : PlainChain) → IsPlainChain m shape tables chain → IsChain m shape tables (each table_text chain.parts) chain.rounds (ending_of chain.end)
 texts_of m shape tables chain p = record { n = p.n; round = p.round; ends = p.ends; texts = ap (each table_text) p.parts }
 
-module _ (asked : Asked) (form : Form) (tables : List (List Record)) (chain : PlainChain) (is : IsPlainChain (meaning_of form) (shape_of form) tables chain) where
-  pub command_done : (before mid after : Option FileMap) (ended : Ended) → mid ≡ before → IfSome before (λ files. Judged (ComesTo files asked) (accepted form tables)) → OnTold (Written asked.out chain.parts) mid after → ended.rounds ≡ chain.rounds → ended.end ≡ chain.end → CommandDone asked before after ended
+module _ (asked : Asked) (program : Whole) (tables : List (List Record)) (chain : PlainChain) (is : IsPlainChain (meaning_of program) program.shape tables chain) where
+  pub command_done : (before mid after : Option FileMap) (ended : Ended) → mid ≡ before → IfSome before (λ files. Judged (ComesTo files asked) (accepted program tables)) → OnTold (Written asked.out chain.parts) mid after → ended.rounds ≡ chain.rounds → ended.end ≡ chain.end → CommandDone asked before after ended
   command_done None mid after ended m j w r e = record { leaves = subst (λ (t : Option FileMap). OnTold (Written asked.out chain.parts) t after) m w; only = tt }
   command_done (Some before) mid None ended m j w r e = absurd (subst (λ (t : Option FileMap). OnTold (Written asked.out chain.parts) t None) m w)
   command_done (Some before) mid (Some after) ended m j w r e = record {
     leaves = record {
       texts = each table_text chain.parts;
       chained = record {
-        form = form;
+        program = program;
         tables = tables;
         accepts = j.comes;
-        chain = subst (λ (n : ℕ). IsChain (meaning_of form) (shape_of form) tables (each table_text chain.parts) n (ending_of ended.end)) (sym r)
-            (subst (λ w. IsChain (meaning_of form) (shape_of form) tables (each table_text chain.parts) chain.rounds (ending_of w)) (sym e) (texts_of (meaning_of form) (shape_of form) tables chain is));
+        chain = subst (λ (n : ℕ). IsChain (meaning_of program) program.shape tables (each table_text chain.parts) n (ending_of ended.end)) (sym r)
+            (subst (λ w. IsChain (meaning_of program) program.shape tables (each table_text chain.parts) chain.rounds (ending_of w)) (sym e) (texts_of (meaning_of program) program.shape tables chain is));
       };
       changed = subst (λ (t : Option FileMap). OnTold (Written asked.out chain.parts) t (Some after)) m w;
     };
     only = j.only;
   }
 
-  some_parts : (before mid after : Option FileMap) → mid ≡ before → IfSome before (λ files. Judged (ComesTo files asked) (accepted form tables)) → OnTold (WrittenPart asked.out chain.parts) mid after → OnTold (LeavesPart asked) before after
+  some_parts : (before mid after : Option FileMap) → mid ≡ before → IfSome before (λ files. Judged (ComesTo files asked) (accepted program tables)) → OnTold (WrittenPart asked.out chain.parts) mid after → OnTold (LeavesPart asked) before after
   some_parts None mid after m j w = subst (λ (t : Option FileMap). OnTold (WrittenPart asked.out chain.parts) t after) m w
   some_parts (Some before) mid None m j w = subst (λ (t : Option FileMap). OnTold (WrittenPart asked.out chain.parts) t None) m w
   some_parts (Some before) mid (Some after) m j w =
@@ -54,13 +50,13 @@ module _ (asked : Asked) (form : Form) (tables : List (List Record)) (chain : Pl
         rounds = chain.rounds;
         word = ending_of chain.end;
         texts = each table_text chain.parts;
-        chained = record { form = form; tables = tables; accepts = j.comes; chain = texts_of (meaning_of form) (shape_of form) tables chain is };
+        chained = record { program = program; tables = tables; accepts = j.comes; chain = texts_of (meaning_of program) program.shape tables chain is };
         written = p.0;
         first = p.1;
         changed = p.2;
       }
 
-  pub writing_refused : (before mid after : Option FileMap) (faults faults' absents : Type 0) → mid ≡ before → IfSome before (λ files. Judged (ComesTo files asked) (accepted form tables)) → OnTold (WrittenPart asked.out chain.parts) mid after → (faults → faults') → (r : Refusal) → WriteRefused r faults → CommandRefused asked before after faults' absents r
+  pub writing_refused : (before mid after : Option FileMap) (faults faults' absents : Type 0) → mid ≡ before → IfSome before (λ files. Judged (ComesTo files asked) (accepted program tables)) → OnTold (WrittenPart asked.out chain.parts) mid after → (faults → faults') → (r : Refusal) → WriteRefused r faults → CommandRefused asked before after faults' absents r
   writing_refused before mid after f f' a m j w ff refusal.Usage r = r
   writing_refused before mid after f f' a m j w ff (refusal.Absent name) r = absurd r
   writing_refused before mid after f f' a m j w ff (refusal.BadProgram line what) r = absurd r
@@ -78,11 +74,3 @@ input_refused asked before after f a k refusal.NotBuilt r = (k, r)
 input_refused asked before after f a k (refusal.BadTable name what) r = (k, r)
 input_refused asked before after f a k refusal.Device r = (r, inl k)
 input_refused asked before after f a k refusal.Memory r = inl k
-
-steps_there : (tables : List TableForm) (steps : List StepForm) → 1 ≤ length steps → 1 ≤ length (steps_of tables steps)
-steps_there tables [] l = l
-steps_there tables (first ∷ others) l = omega arith
-
-pub has_steps : (form : Form) (shape : Shape) → KeepsRules form → shape ≡ shape_of form → (1 ≤ length shape.steps) × FewSteps shape.steps
-has_steps form shape g e =
-    subst (λ (s : Shape). (1 ≤ length s.steps) × FewSteps s.steps) (sym e) (steps_there form.tables form.steps g.limits.few_steps.0, form_has_few_steps form g)

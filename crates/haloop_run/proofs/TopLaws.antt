@@ -4,7 +4,7 @@ use Rattle.std.specs.Option.{IfSome}
 use Rattle.std.proofs.Math.Seq.{take-length}
 use Rattle.hal_base.specs.declared.table.TableFault.{TableFault}
 use Rattle.hal_outside.specs.Told.{FileMap, AfterFailedAppend}
-use Rattle.loop_program.specs.declared.fault.What.{What}
+use Rattle.program_sketch.specs.declared.fault.What.{What}
 use Rattle.plain_job.specs.Plain.{ending_of}
 use Rattle.haloop_run.specs.declared.refusal.Refusal.{Refusal}
 use Rattle.haloop_run.specs.declared.refusal.Refusal.TheVariants as refusal

@@ -1,4 +1,5 @@
 pub mod Inputs
+pub mod Meanings
 pub mod Outputs
 pub mod Statuses
 pub mod Steps

@@ -10,13 +10,13 @@ use Rattle.hal_base.specs.declared.table.TableFault.{TableFault}
 use Rattle.hal_base.specs.declared.table.TableFault.TheVariants.{Line, TooMany}
 use Rattle.hal_base.specs.declared.table.TableFault.TheVariants as table
 use Rattle.hal_outside.specs.Told.{FileMap}
-use Rattle.loop_program.specs.declared.fault.What.{What}
-use Rattle.loop_program.specs.declared.fault.What.TheVariants.{Syntax, Limit, WrongKind, UnknownName, WrongCount, EmitMismatch, DoubleName, StreamMismatch}
+use Rattle.program_sketch.specs.declared.fault.What.{What}
+use Rattle.program_sketch.specs.declared.fault.What.TheVariants.{Syntax, Limit, WrongKind, UnknownName, WrongCount, EmitMismatch, DoubleName, StreamMismatch, UnknownTable, SchemaMismatch}
 use Rattle.plain_job.specs.Ends.{IsChain, Ending, ending_text}
-use Rattle.program_form.specs.declared.form.Form.{Form}
-use Rattle.program_form.specs.Shapes.{meaning_of, shape_of}
+use Rattle.loop_program.specs.Whole.{Whole}
 use Rattle.haloop_run.specs.Words.{Asked}
 use Rattle.haloop_run.specs.Inputs.{accepted, ComesTo}
+use Rattle.haloop_run.specs.Meanings.{meaning_of}
 
 -- the last digit of a number
 abbrev pub digit : ℕ → ℕ
@@ -40,10 +40,10 @@ AreFirstOf (text ∷ texts) (written ∷ more) = ((written ≡ text) × AreFirst
 
 -- the input is accepted, and its chain ends in this round, in this way, with these texts of its parts
 pub record Chained (files : FileMap) (asked : Asked) (rounds : ℕ) (word : Ending) (texts : List (List ℕ)) : Type 0 where
-  pub form : Form
+  pub program : Whole
   pub tables : List (List Record)
-  pub accepts : ComesTo files asked (accepted form tables)
-  pub chain : IsChain (meaning_of form) (shape_of form) tables texts rounds word
+  pub accepts : ComesTo files asked (accepted program tables)
+  pub chain : IsChain (meaning_of program) program.shape tables texts rounds word
 
 -- the files are as before, but for the part files, which have the texts of the chain's parts
 pub record Leaves (asked : Asked) (rounds : ℕ) (word : Ending) (before after : FileMap) : Type 0 where
@@ -91,6 +91,8 @@ what_text WrongCount = codes "wrong-count"
 what_text EmitMismatch = codes "emit-mismatch"
 what_text DoubleName = codes "double-name"
 what_text StreamMismatch = codes "stream-mismatch"
+what_text UnknownTable = codes "unknown-table"
+what_text SchemaMismatch = codes "schema-mismatch"
 
 abbrev pub program_line : ℕ → What → List ℕ
 program_line line what = codes "error: program line " ++ decimal line ++ codes ": " ++ what_text what ++ codes "\n"

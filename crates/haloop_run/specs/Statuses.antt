@@ -2,7 +2,7 @@
 use Rattle.std.specs.Prelude.{◌≡◌, ℕ, ◌⊎◌, List, Option, IfSome}
 use Rattle.hal_base.specs.declared.table.TableFault.{TableFault}
 use Rattle.hal_outside.specs.Told.{FileMap, AfterFailedAppend}
-use Rattle.loop_program.specs.declared.fault.What.{What}
+use Rattle.program_sketch.specs.declared.fault.What.{What}
 use Rattle.plain_job.specs.Ends.{Ending}
 use Rattle.haloop_run.specs.Words.{Asked, AskFor, IsUsage}
 use Rattle.haloop_run.specs.Inputs.{Outcome, accepted, absent, bad_program, not_built, bad_table, ComesTo}
@@ -14,7 +14,7 @@ IsStatus n = (n ≡ 0) ⊎ (n ≡ 1) ⊎ (n ≡ 2) ⊎ (n ≡ 3) ⊎ (n ≡ 8) �
 
 -- the status of what the input comes to
 abbrev pub status_of : Outcome → ℕ
-status_of (accepted form tables) = 0
+status_of (accepted program tables) = 0
 status_of (absent name) = 11
 status_of (bad_program line what) = 2
 status_of not_built = 12

@@ -1,6 +1,7 @@
 -- What the steps of a command find and leave, for their contracts alone.
 use Rattle.std.specs.Prelude.{◌≡◌, ◌≢◌, ℕ, ◌⊎◌, List, Option, None, Some, IfSome, Result, Ok, Err, map as each}
 use Rattle.std.specs.FinMap as map
+use Rattle.hal_base.specs.declared.fields.Schema.{Schema}
 use Rattle.hal_base.specs.declared.record.Record.{Record}
 use Rattle.hal_base.specs.declared.table.TableFault.{TableFault}
 use Rattle.hal_base.specs.declared.table.TableFault.TheVariants as fault
@@ -8,14 +9,10 @@ use Rattle.hal_base.specs.Lines.{StandsFor, table_text}
 use Rattle.hal_base.specs.TableFaults.{HasTableFault}
 use Rattle.hal_outside.specs.Told.{FileMap, AfterFailedAppend}
 use Rattle.plain_job.specs.Plain.{ending_of}
-use Rattle.program_form.specs.declared.form.Form.{Form}
-use Rattle.program_form.specs.declared.form.TableForm.{TableForm}
-use Rattle.loop_program.specs.declared.fault.What.{What}
-use Rattle.loop_program.specs.declared.fault.ProgramFault.TheVariants.{At}
-use Rattle.loop_program.specs.declared.sketch.TypedSketch.{TypedSketch}
-use Rattle.loop_program.specs.Programs.{IsJustTyped, IsRefusedBy}
-use Rattle.program_form.specs.Forms.{IsFormOf}
-use Rattle.program_form.specs.Shapes.{pairs}
+use Rattle.program_sketch.specs.declared.fault.What.{What}
+use Rattle.program_sketch.specs.declared.fault.ProgramFault.TheVariants.{At}
+use Rattle.loop_program.specs.Programs.{IsJustProgram, IsRefusedBy}
+use Rattle.loop_program.specs.Whole.{Whole}
 use Rattle.haloop_run.specs.declared.refusal.Refusal.{Refusal}
 use Rattle.haloop_run.specs.declared.refusal.Refusal.TheVariants as refusal
 use Rattle.haloop_run.specs.declared.run.Ended.{Ended}
@@ -29,35 +26,24 @@ pub record Judged (Stage : Outcome → Type 0) (it : Outcome) : Type 0 where
   pub comes : Stage it
   pub only : (other : Outcome) → Stage other → status_of other ≡ status_of it
 
--- the file of this name has the text of a typed program, which is of this form
-pub record HasForm (files : FileMap) (name : List ℕ) (form : Form) : Type 0 where
+-- the file of this name has the text of this program
+pub record HasProgram (files : FileMap) (name : List ℕ) (whole : Whole) : Type 0 where
   pub text : List ℕ
   pub there : map.get files name ≡ Some text
-  pub sketch : TypedSketch
-  pub program : IsJustTyped text sketch
-  pub is_form : IsFormOf sketch form
+  pub program : IsJustProgram text whole
 
--- the file of this name has the text of a typed program, which is of no form that is built
-pub record HasOtherForm (files : FileMap) (name : List ℕ) : Type 0 where
-  pub text : List ℕ
-  pub there : map.get files name ≡ Some text
-  pub sketch : TypedSketch
-  pub program : IsJustTyped text sketch
-  pub none : (form : Form) → IsFormOf sketch form → ⊥
-
--- the file of this name is not there, or something is wrong with its text, or it has the text of a typed program of no form that is built
-abbrev pub NoForm : FileMap → List ℕ → Outcome → Type 0
-NoForm files name it =
+-- the file of this name is not there, or something is wrong with its text
+abbrev pub NoProgram : FileMap → List ℕ → Outcome → Type 0
+NoProgram files name it =
     ((map.get files name ≡ None) × (it ≡ absent name))
     ⊎ ((text : List ℕ) × (map.get files name ≡ Some text) × (line : ℕ) × (what : What) × IsRefusedBy text (At line what) × (it ≡ bad_program line what))
-    ⊎ (HasOtherForm files name × (it ≡ not_built))
 
 -- the causes of a refusal where the text of a program is read
 abbrev pub TextRefused : Refusal → List ℕ → Type 0
 TextRefused refusal.Usage text = ⊥
 TextRefused (refusal.Absent name) text = ⊥
 TextRefused (refusal.BadProgram line what) text = IsRefusedBy text (At line what)
-TextRefused refusal.NotBuilt text = (sketch : TypedSketch) × IsJustTyped text sketch × ((form : Form) → IsFormOf sketch form → ⊥)
+TextRefused refusal.NotBuilt text = ⊥
 TextRefused (refusal.BadTable name what) text = ⊥
 TextRefused refusal.Device text = ⊥
 TextRefused refusal.Memory text = Unit {0}
@@ -78,17 +64,17 @@ abbrev pub NoSchedule : FileMap → Option (List ℕ) → Outcome → Type 0
 NoSchedule files None it = ⊥
 NoSchedule files (Some name) it = OtherSchedule files name it
 
--- the table's file is there, and stands for these records
-pub record HasRows (files : FileMap) (table : TableForm) (rows : List Record) : Type 0 where
+-- a table's file is there, and stands for these records of its schema
+pub record HasRows (files : FileMap) (file : List ℕ) (schema : Schema) (rows : List Record) : Type 0 where
   pub bytes : List ℕ
-  pub there : map.get files table.file ≡ Some bytes
-  pub stands : StandsFor pairs bytes rows
+  pub there : map.get files file ≡ Some bytes
+  pub stands : StandsFor schema bytes rows
 
--- the table's file is not there, or has a fault
-abbrev pub NoRows : FileMap → TableForm → Outcome → Type 0
-NoRows files table it =
-    ((map.get files table.file ≡ None) × (it ≡ absent table.file))
-    ⊎ ((bytes : List ℕ) × (map.get files table.file ≡ Some bytes) × (what : TableFault) × HasTableFault pairs bytes what × (what ≢ fault.Memory) × (it ≡ bad_table table.name what))
+-- the file of a table of this name is not there, or has a fault
+abbrev pub NoRows : FileMap → List ℕ → List ℕ → Schema → Outcome → Type 0
+NoRows files name file schema it =
+    ((map.get files file ≡ None) × (it ≡ absent file))
+    ⊎ ((bytes : List ℕ) × (map.get files file ≡ Some bytes) × (what : TableFault) × HasTableFault schema bytes what × (what ≢ fault.Memory) × (it ≡ bad_table name what))
 
 -- the causes of a refusal before anything is written: what the input comes to, a device, and that a read found no file
 abbrev pub Refused : Refusal → (Outcome → Type 0) → Type 0 → Type 0 → Type 0
@@ -100,15 +86,15 @@ Refused (refusal.BadTable name what) P faults absents = P (bad_table name what)
 Refused refusal.Device P faults absents = faults
 Refused refusal.Memory P faults absents = Unit {0}
 
--- the causes of a refusal where the bytes of a table are read
-abbrev pub BytesRefused : Refusal → TableForm → List ℕ → Type 0
-BytesRefused refusal.Usage table bytes = ⊥
-BytesRefused (refusal.Absent name) table bytes = ⊥
-BytesRefused (refusal.BadProgram line what) table bytes = ⊥
-BytesRefused refusal.NotBuilt table bytes = ⊥
-BytesRefused (refusal.BadTable name what) table bytes = (name ≡ table.name) × HasTableFault pairs bytes what × (what ≢ fault.Memory)
-BytesRefused refusal.Device table bytes = ⊥
-BytesRefused refusal.Memory table bytes = Unit {0}
+-- the causes of a refusal where the bytes of a table of this name and schema are read
+abbrev pub BytesRefused : Refusal → List ℕ → Schema → List ℕ → Type 0
+BytesRefused refusal.Usage table schema bytes = ⊥
+BytesRefused (refusal.Absent name) table schema bytes = ⊥
+BytesRefused (refusal.BadProgram line what) table schema bytes = ⊥
+BytesRefused refusal.NotBuilt table schema bytes = ⊥
+BytesRefused (refusal.BadTable name what) table schema bytes = (name ≡ table) × HasTableFault schema bytes what × (what ≢ fault.Memory)
+BytesRefused refusal.Device table schema bytes = ⊥
+BytesRefused refusal.Memory table schema bytes = Unit {0}
 
 -- the causes of a refusal while the parts are written
 abbrev pub WriteRefused : Refusal → Type 0 → Type 0
@@ -130,13 +116,13 @@ AbsentOf name (refusal.BadTable table what) = ⊥
 AbsentOf name refusal.Device = ⊥
 AbsentOf name refusal.Memory = Unit {0}
 
--- the refusal of a table for this fault, unless memory ran out
-abbrev pub BadTableOf : TableForm → TableFault → Refusal → Type 0
+-- the refusal of the table of this name for this fault, unless memory ran out
+abbrev pub BadTableOf : List ℕ → TableFault → Refusal → Type 0
 BadTableOf table what' refusal.Usage = ⊥
 BadTableOf table what' (refusal.Absent name) = ⊥
 BadTableOf table what' (refusal.BadProgram line wrong) = ⊥
 BadTableOf table what' refusal.NotBuilt = ⊥
-BadTableOf table what' (refusal.BadTable name what) = (name ≡ table.name) × (what ≡ what')
+BadTableOf table what' (refusal.BadTable name what) = (name ≡ table) × (what ≡ what')
 BadTableOf table what' refusal.Device = ⊥
 BadTableOf table what' refusal.Memory = Unit {0}
 

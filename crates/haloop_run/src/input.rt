@@ -1,30 +1,25 @@
-ghost use Rattle.std.specs.Prelude.{◌≡◌, ◌≢◌, ◌≤◌, ℕ, List, [], ◌∷◌, None, Some, IfOk, IfErr, IfSome, OnOk};
+ghost use Rattle.std.specs.Prelude.{◌≡◌, ◌≤◌, [], None, Some, IfOk, IfErr, IfSome, OnOk};
 ghost use Rattle.std.specs.Option.{option_copied};
 ghost use Rattle.std.specs.FinMap as map;
 ghost use Rattle.hal_base.specs.Lines.{StandsFor};
 ghost use Rattle.hal_outside.specs.Told.{Rose};
-ghost use Rattle.program_form.specs.Forms.{KeepsRules};
-ghost use Rattle.program_form.specs.Shapes as shapes;
-ghost use Rattle.program_form.specs.Forms.{IsFormOf};
-ghost use Rattle.loop_program.specs.declared.sketch.TypedSketch.{TypedSketch as Program};
-ghost use Rattle.loop_program.specs.Programs.{IsJustTyped};
+ghost use Rattle.loop_program.specs.Programs.{IsJustProgram};
 ghost use Rattle.haloop_run.specs.Inputs as inputs;
-ghost use Rattle.haloop_run.specs.Inputs.{ComesTo, TablesComeTo};
-ghost use Rattle.haloop_run.specs.Steps.{AbsentOf, BadTableOf, BytesRefused, HasForm, HasRows, HasSchedule, Judged, NoForm, NoRows, NoSchedule, OtherSchedule, Refused, TextRefused};
+ghost use Rattle.haloop_run.specs.Inputs.{ComesTo, TablesComeTo, tables_of};
+ghost use Rattle.haloop_run.specs.Steps.{AbsentOf, BadTableOf, BytesRefused, HasProgram, HasRows, HasSchedule, Judged, NoProgram, NoRows, NoSchedule, OtherSchedule, Refused, TextRefused};
 ghost use Rattle.haloop_run.specs.Texts.{asked_by};
 
 use crate::refusal::Refusal;
 use crate::words::Command;
-use hal_base::{CopyIn, Items, Memory, Records, TableFault, Tables, read_table};
+use hal_base::{CopyIn, Items, Memory, Records, Schema, TableFault, Tables, Text, read_table};
 use hal_outside::{FileFault, Files};
-use loop_program::{ProgramFault, TypedSketch, typed_program};
-use program_form::{Form, TableForm, form_of, pairs};
+use loop_program::{Program, ProgramFault, read_program};
 use std::alloc::Global;
 
 /// A program, and the records of each of its tables.
 #[derive(Drop)]
 pub(crate) struct Accepted {
-    pub(crate) form: Form,
+    pub(crate) program: Program,
     pub(crate) tables: Tables,
 }
 
@@ -38,52 +33,38 @@ pub(crate) fn accepted_input<F: Files>(
     ensures faults_stay { F.faults files.old ≤ F.faults files.new }
     ensures absents_stay { F.absents files.old ≤ F.absents files.new }
     ensures kept { F.told files.new ≡ F.told files.old }
-    ensures good { IfOk result (λ input. KeepsRules input.form) }
-    ensures found { IfOk result (λ input. IfSome (F.told files.old) (λ told. Judged (ComesTo told (asked_by command.now)) (inputs.accepted input.form input.tables))) }
+    ensures found { IfOk result (λ input. IfSome (F.told files.old) (λ told. Judged (ComesTo told (asked_by command.now)) (inputs.accepted input.program input.tables))) }
     ensures refused { IfErr result (λ refusal. Refused refusal
         (λ it. IfSome (F.told files.old) (λ told. Judged (ComesTo told (asked_by command.now)) it))
         (Rose (F.faults files.old) (F.faults files.new)) (Rose (F.absents files.old) (F.absents files.new))) }
 {
-    let form = read_program(alloc, command.program, files)?;
+    let program = program_file(alloc, command.program, files)?;
     read_schedule(alloc, command.schedule, files)?;
-    let tables = read_tables(alloc, &form, files)?;
-    Ok(Accepted { form, tables })
+    let tables = read_tables(alloc, &program, files)?;
+    Ok(Accepted { program, tables })
 }
 
-fn read_program<F: Files>(alloc: Global, name: &str, files: &mut F) -> Result<Form, Refusal>
+/// The program whose text the file of this name has.
+fn program_file<F: Files>(alloc: Global, name: &str, files: &mut F) -> Result<Program, Refusal>
     ensures faults_stay { F.faults files.old ≤ F.faults files.new }
     ensures absents_stay { F.absents files.old ≤ F.absents files.new }
     ensures kept { F.told files.new ≡ F.told files.old }
-    ensures good { IfOk result KeepsRules }
-    ensures found { IfOk result (λ form. IfSome (F.told files.old) (λ told. HasForm told name.now form)) }
+    ensures found { IfOk result (λ program. IfSome (F.told files.old) (λ told. HasProgram told name.now program)) }
     ensures refused { IfErr result (λ refusal. Refused refusal
-        (λ it. IfSome (F.told files.old) (λ told. NoForm told name.now it))
+        (λ it. IfSome (F.told files.old) (λ told. NoProgram told name.now it))
         (Rose (F.faults files.old) (F.faults files.new)) (Rose (F.absents files.old) (F.absents files.new))) }
 {
     let text = read_file(alloc, name, files)?;
-    form_in(alloc, text.as_slice())
-}
-
-/// The program of this text, if it is of the form that is built.
-fn form_in(alloc: Global, text: &[u8]) -> Result<Form, Refusal>
-    ensures good { IfOk result KeepsRules }
-    ensures found { IfOk result (λ form. (sketch : Program) × IsJustTyped text.now sketch × IsFormOf sketch form) }
-    ensures refused { IfErr result (λ refusal. TextRefused refusal text.now) }
-{
-    let sketch = sketch_in(alloc, text)?;
-    match form_of(alloc, sketch)? {
-        Some(form) => Ok(form),
-        None => Err(Refusal::NotBuilt),
-    }
+    program_in(alloc, text.as_slice())
 }
 
 /// The program of this text.
-fn sketch_in(alloc: Global, text: &[u8]) -> Result<TypedSketch, Refusal>
-    ensures found { IfOk result (IsJustTyped text.now) }
+fn program_in(alloc: Global, text: &[u8]) -> Result<Program, Refusal>
+    ensures found { IfOk result (IsJustProgram text.now) }
     ensures refused { IfErr result (λ refusal. TextRefused refusal text.now) }
 {
-    match typed_program(alloc, text) {
-        Ok(sketch) => Ok(sketch),
+    match read_program(alloc, text) {
+        Ok(program) => Ok(program),
         Err(ProgramFault::At { line, what }) => Err(Refusal::BadProgram { line, what }),
         Err(ProgramFault::Memory) => Err(Refusal::Memory),
     }
@@ -123,53 +104,71 @@ fn judge_schedule<F: Files>(alloc: Global, name: &str, files: &mut F) -> Result<
 }
 
 /// The records of each table, in the order of the program.
-fn read_tables<F: Files>(alloc: Global, form: &Form, files: &mut F) -> Result<Tables, Refusal>
+fn read_tables<F: Files>(alloc: Global, program: &Program, files: &mut F) -> Result<Tables, Refusal>
     ensures faults_stay { F.faults files.old ≤ F.faults files.new }
     ensures absents_stay { F.absents files.old ≤ F.absents files.new }
     ensures kept { F.told files.new ≡ F.told files.old }
-    ensures found { IfOk result (λ tables. IfSome (F.told files.old) (λ told. Judged (TablesComeTo told form.now form.now.tables []) (inputs.accepted form.now tables))) }
+    ensures found { IfOk result (λ tables. IfSome (F.told files.old) (λ told. Judged (TablesComeTo told program.now (tables_of program.now) []) (inputs.accepted program.now tables))) }
     ensures refused { IfErr result (λ refusal. Refused refusal
-        (λ it. IfSome (F.told files.old) (λ told. Judged (TablesComeTo told form.now form.now.tables []) it))
+        (λ it. IfSome (F.told files.old) (λ told. Judged (TablesComeTo told program.now (tables_of program.now) []) it))
         (Rose (F.faults files.old) (F.faults files.new)) (Rose (F.absents files.old) (F.absents files.new))) }
 {
     let mut tables = Tables::new(alloc);
-    'tables: for table in form.tables.as_slice() {
-        let rows = read_rows(alloc, table, files)?;
+    let mut names = program.names.as_slice();
+    let mut paths = program.files.as_slice();
+    let mut schemas = program.shape.tables.as_slice();
+    'tables: while let [name, more_names @ ..] = names {
+        let [path, more_paths @ ..] = paths else {
+            break;
+        };
+        let [schema, more_schemas @ ..] = schemas else {
+            break;
+        };
+        let rows = read_rows(alloc, name, path, schema, files)?;
         tables.push(rows)?;
+        names = more_names;
+        paths = more_paths;
+        schemas = more_schemas;
     }
     Ok(tables)
 }
 
-fn read_rows<F: Files>(alloc: Global, table: &TableForm, files: &mut F) -> Result<Records, Refusal>
+/// The records of a table: its name, its file, and its schema.
+fn read_rows<F: Files>(
+    alloc: Global,
+    name: &Text,
+    file: &Text,
+    schema: &Schema,
+    files: &mut F,
+) -> Result<Records, Refusal>
     ensures faults_stay { F.faults files.old ≤ F.faults files.new }
     ensures absents_stay { F.absents files.old ≤ F.absents files.new }
     ensures kept { F.told files.new ≡ F.told files.old }
-    ensures found { IfOk result (λ rows. IfSome (F.told files.old) (λ told. HasRows told table.now rows)) }
+    ensures found { IfOk result (λ rows. IfSome (F.told files.old) (λ told. HasRows told file.now schema.now rows)) }
     ensures refused { IfErr result (λ refusal. Refused refusal
-        (λ it. IfSome (F.told files.old) (λ told. NoRows told table.now it))
+        (λ it. IfSome (F.told files.old) (λ told. NoRows told name.now file.now schema.now it))
         (Rose (F.faults files.old) (F.faults files.new)) (Rose (F.absents files.old) (F.absents files.new))) }
 {
-    let bytes = read_file(alloc, table.file.as_str(), files)?;
-    rows_of(alloc, table, bytes.as_slice())
+    let bytes = read_file(alloc, file.as_str(), files)?;
+    rows_of(alloc, name, schema, bytes.as_slice())
 }
 
-/// The records that the bytes of a table's file stand for.
-fn rows_of(alloc: Global, table: &TableForm, bytes: &[u8]) -> Result<Records, Refusal>
-    ensures found { IfOk result (StandsFor shapes.pairs bytes.now) }
-    ensures refused { IfErr result (λ refusal. BytesRefused refusal table.now bytes.now) }
+/// The records of this schema that the bytes of a table's file stand for.
+fn rows_of(alloc: Global, name: &Text, schema: &Schema, bytes: &[u8]) -> Result<Records, Refusal>
+    ensures found { IfOk result (StandsFor schema.now bytes.now) }
+    ensures refused { IfErr result (λ refusal. BytesRefused refusal name.now schema.now bytes.now) }
 {
-    let schema = pairs(alloc)?;
-    match read_table(alloc, bytes, &schema) {
+    match read_table(alloc, bytes, schema) {
         Ok(rows) => Ok(rows),
         Err(TableFault::Memory) => Err(Refusal::Memory),
-        Err(what) => Err(bad_table(alloc, table, what)),
+        Err(what) => Err(bad_table(alloc, name, what)),
     }
 }
 
-fn bad_table(alloc: Global, table: &TableForm, what: TableFault) -> Refusal
-    ensures { BadTableOf table.now what result }
+fn bad_table(alloc: Global, name: &Text, what: TableFault) -> Refusal
+    ensures { BadTableOf name.now what result }
 {
-    match table.name.copy(alloc) {
+    match name.copy(alloc) {
         Ok(name) => Refusal::BadTable { name, what },
         Err(Memory) => Refusal::Memory,
     }

@@ -62,6 +62,8 @@ fn what_word(what: What) -> &'static [u8]
         What::EmitMismatch => b"emit-mismatch",
         What::DoubleName => b"double-name",
         What::StreamMismatch => b"stream-mismatch",
+        What::UnknownTable => b"unknown-table",
+        What::SchemaMismatch => b"schema-mismatch",
     }
 }
 

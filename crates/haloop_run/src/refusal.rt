@@ -10,7 +10,7 @@ pub(crate) enum Refusal {
     Absent(Items<u8>),
     /// This is wrong with the program in this line.
     BadProgram { line: u64, what: What },
-    /// The program or the schedule is of a form that is not built yet.
+    /// The schedule is one that is not built yet.
     NotBuilt,
     /// The file of the table of this name stands for no table.
     BadTable { name: Text, what: TableFault },

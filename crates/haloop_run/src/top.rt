@@ -1,7 +1,7 @@
 ghost use Rattle.std.specs.Prelude.{◌≡◌, ◌≤◌, ◌⊎◌, ℕ, IfOk, IfSome, List};
 ghost use Rattle.hal_base.specs.declared.table.TableFault.{TableFault};
 ghost use Rattle.hal_outside.specs.Told.{Rose};
-ghost use Rattle.loop_program.specs.declared.fault.What.{What};
+ghost use Rattle.program_sketch.specs.declared.fault.What.{What};
 ghost use Rattle.plain_job.specs.Ends.{Ending};
 ghost use Rattle.haloop_run.specs.Inputs as inputs;
 ghost use Rattle.haloop_run.specs.Inputs.{ComesTo, Outcome};

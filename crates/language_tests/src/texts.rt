@@ -1,18 +1,28 @@
 // Programs and functions as they are written, read and printed.
 use function_language::{SyntaxFault, print_functions, read_functions};
-use loop_program::{ProgramFault, What, parse_program, typed_program};
-use program_form::{form_of, form_shape};
+use hal_base::Shape;
+use loop_program::{ProgramFault, What, read_program};
+use program_sketch::parse_program;
+use std::alloc::Global;
 use std::test::Fail;
 
+/// The shape of the program of this text.
+fn shape_of(alloc: Global, text: &str) -> Result<Shape, ProgramFault> {
+    Ok(read_program(alloc, text.as_bytes())?.shape)
+}
+
+/// Why a text is refused as a program, if it is.
+fn fault_of(alloc: Global, text: &str) -> Option<ProgramFault> {
+    read_program(alloc, text.as_bytes()).err()
+}
+
 #[test]
-fn a_program_is_read_as_its_form(rt: HostRuntime) -> Result<(), Fail> {
+fn a_program_is_read_as_its_shape(rt: HostRuntime) -> Result<(), Fail> {
     let text =
         "program all; parts 64; rounds 10000; stop exact; # all\ntable t \"a b.tsv\" (int, int);\ntable u_2 \"~\" (int, int);\nbegin u_2;\nstep { state by same; reduce every; }\nstep { prev by same; table t by same; reduce hop; }\n";
     let sketch = parse_program(rt.alloc(), text.as_bytes())?;
     assert_eq!(rt; sketch.start.line, 4);
-    let typed = typed_program(rt.alloc(), text.as_bytes())?;
-    let form = form_of(rt.alloc(), typed)?.ok_or("no form")?;
-    let shape = form_shape(rt.alloc(), &form)?;
+    let shape = shape_of(rt.alloc(), text)?;
     assert_eq!(rt; shape.start, 1);
     assert_eq!(rt; shape.steps.len(), 2);
     match parse_program(rt.alloc(), text[1..].as_bytes()) {
@@ -26,8 +36,8 @@ fn a_program_is_read_as_its_form(rt: HostRuntime) -> Result<(), Fail> {
 fn names_and_kinds_are_refused_in_their_lines(rt: HostRuntime) -> Result<(), Fail> {
     let twice =
         "program p; parts 1; rounds 1; stop exact;\ntable t \"t.tsv\" (int, int);\ntable t \"u.tsv\" (int, int);\nmap m(k: int) -> (int, int) { emit(j, 1); }\nbegin t;\nstep { state by m; reduce every; }\n";
-    match typed_program(rt.alloc(), twice.as_bytes()) {
-        Err(
+    match fault_of(rt.alloc(), twice) {
+        Some(
             ProgramFault::At {
                 line,
                 what: What::DoubleName,
@@ -37,8 +47,8 @@ fn names_and_kinds_are_refused_in_their_lines(rt: HostRuntime) -> Result<(), Fai
     }
     let unknown =
         "program p; parts 1; rounds 1; stop exact;\ntable t \"t.tsv\" (int, int);\nmap m(k: int) -> (int, int) {\nemit(j, 1); }\nbegin t;\nstep { state by m; reduce every; }\n";
-    match typed_program(rt.alloc(), unknown.as_bytes()) {
-        Err(
+    match fault_of(rt.alloc(), unknown) {
+        Some(
             ProgramFault::At {
                 line,
                 what: What::UnknownName,

@@ -1,11 +1,6 @@
-pub mod GrammarCaches
-pub mod GrammarHeads
-pub mod GrammarLines
-pub mod GrammarPrograms
-pub mod GrammarSteps
-pub mod GrammarTables
-pub mod Inner
-pub mod Programs
-pub mod Shorter
-pub mod StepHalves
-pub mod TypedTexts
+pub mod Chains
+mod Collecting
+mod KeptLimits
+mod KeptRules
+pub mod KeptSchemas
+mod Texts

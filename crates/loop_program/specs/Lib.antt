@@ -1,5 +1,9 @@
+pub mod Found
+pub mod Limits
+pub mod Places
 pub mod Programs
-pub mod Reading
-pub mod Spelled
+pub mod Rules
+pub mod Schemas
 pub mod Steps
 pub mod Types
+pub mod Whole

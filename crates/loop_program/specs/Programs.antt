@@ -1,84 +1,120 @@
--- When a text is that of a program, and why it is refused.
-use Rattle.std.specs.Prelude.{◌≡◌, ℕ, ◌<◌, ◌≤◌, List, length}
-use Rattle.function_language.specs.Texts.{HasFaultAt, IsTextOf}
-use Rattle.loop_program.specs.declared.fault.ProgramFault.{ProgramFault}
-use Rattle.loop_program.specs.declared.fault.ProgramFault.TheVariants.{At, Memory}
-use Rattle.loop_program.specs.declared.fault.What.{What}
-use Rattle.loop_program.specs.declared.fault.What.TheVariants.{Syntax, Limit, WrongKind, UnknownName, WrongCount, EmitMismatch, DoubleName, StreamMismatch}
-use Rattle.loop_program.specs.declared.sketch.Sketch.{Sketch}
-use Rattle.loop_program.specs.declared.sketch.TypedSketch.{TypedSketch}
-use Rattle.loop_program.specs.Spelled.{program_pieces}
+-- Programs that are accepted, and why others are refused.
+use Rattle.std.specs.Prelude.{◌≡◌, ◌⊎◌, ℕ, ℤ, pos, negsuc, Bool, true, false, List, [], map, Ok, Err, slice_get}
+use Rattle.hal_base.specs.declared.shape.Shape.{Shape}
+use Rattle.hal_base.specs.declared.shape.Step.{Step}
+use Rattle.hal_base.specs.declared.fields.Schema.{Schema}
+use Rattle.type_checker.specs.declared.uses.UseStep.{UseStep}
+use Rattle.type_checker.specs.declared.uses.Uses.{Uses}
+use Rattle.program_sketch.specs.Programs.{IsMisspelled, IsProgramText}
+use Rattle.program_sketch.specs.declared.fault.ProgramFault.{ProgramFault}
+use Rattle.program_sketch.specs.declared.fault.ProgramFault.TheVariants.{At, Memory}
+use Rattle.program_sketch.specs.declared.fault.What.{What}
+use Rattle.program_sketch.specs.declared.fault.What.TheVariants.{SchemaMismatch}
+use Rattle.program_sketch.specs.declared.sketch.Sketch.{Sketch}
+use Rattle.program_sketch.specs.declared.sketch.StopSketch.{StopSketch}
+use Rattle.program_sketch.specs.declared.sketch.StopSketch.TheVariants.{Exact, Below}
+use Rattle.program_sketch.specs.declared.sketch.TableSketch.{TableSketch}
+use Rattle.loop_program.specs.declared.places.NamedSource.{NamedSource}
+use Rattle.loop_program.specs.declared.places.NamedStep.{NamedStep}
+use Rattle.loop_program.specs.declared.places.Places.{Places}
+use Rattle.loop_program.specs.declared.typing.TypedSketch.{TypedSketch}
+use Rattle.loop_program.specs.Found.{Found, ◌>>=◌, ◌>>◌, demand, each, or_wrong}
+use Rattle.loop_program.specs.Limits.{limits}
+use Rattle.loop_program.specs.Places.{count_of, places}
+use Rattle.loop_program.specs.Schemas.{distance_takes, last_line, last_out, same_schema, steps_typed, table_schema}
+use Rattle.loop_program.specs.Whole.{Whole}
 use Rattle.loop_program.specs.Types.{AreRight, HasFirst, as_typed}
 
--- how long a program's text may be
-abbrev pub most_bytes : ℕ
-most_bytes = 1048576
+-- ---- what an accepted program is
 
--- ---- spelling
+abbrev pub is_exact : StopSketch → Bool
+is_exact Exact = true
+is_exact (Below threshold by) = false
 
--- the text, which is not too long, is that of the program
-abbrev pub IsProgramText : List ℕ → Sketch → Type 0
-IsProgramText text sketch = (length text ≤ most_bytes) × IsTextOf program_pieces text sketch
+-- a number that is not negative
+abbrev pub natural_of : ℤ → ℕ
+natural_of (pos n) = n
+natural_of (negsuc n) = 0
 
--- what is wrong with the spelling in this line: the text is too long, which is said of line 1, or it has a fault of syntax there
-abbrev pub IsMisspelled : List ℕ → ℕ → What → Type 0
-IsMisspelled text line Limit = (most_bytes < length text) × (line ≡ 1)
-IsMisspelled text line Syntax = (length text ≤ most_bytes) × HasFaultAt program_pieces text line
-IsMisspelled text line WrongKind = ⊥
-IsMisspelled text line UnknownName = ⊥
-IsMisspelled text line WrongCount = ⊥
-IsMisspelled text line EmitMismatch = ⊥
-IsMisspelled text line DoubleName = ⊥
-IsMisspelled text line StreamMismatch = ⊥
+-- the distance below which the program stops
+abbrev pub threshold_of : StopSketch → ℕ
+threshold_of Exact = 1
+threshold_of (Below threshold by) = natural_of threshold.value
 
--- the text is that of this program and of no other, and is not misspelled
-pub record IsJustProgram (text : List ℕ) (sketch : Sketch) : Type 0 where
-  pub is : IsProgramText text sketch
-  pub only : (other : Sketch) → IsProgramText text other → other ≡ sketch
-  pub right : (line : ℕ) (what : What) → IsMisspelled text line what → ⊥
+abbrev pub step_uses : NamedStep → UseStep
+step_uses step = record { maps = map (λ (source : NamedSource). source.map.what) step.sources; reduce = step.reduce.what; partition = step.partition.what }
 
--- why the text is not read: it is misspelled, and it is that of no program
-abbrev pub IsNotRead : List ℕ → ProgramFault → Type 0
-IsNotRead text (At line what) = IsMisspelled text line what × ((sketch : Sketch) → IsProgramText text sketch → ⊥)
-IsNotRead text Memory = Unit {0}
+abbrev pub uses_of : Places → Uses
+uses_of found = record { steps = map step_uses found.steps; distance = found.distance.what }
 
--- ---- names and kinds
+-- the shape, without caches; its start is the table of this number
+abbrev pub shape_of : TypedSketch → ℕ → List Schema → List Step → Shape
+shape_of sketch start tables steps = record {
+  parts = count_of sketch.parts.value;
+  rounds = count_of sketch.rounds.value;
+  exact = is_exact sketch.stop;
+  threshold = threshold_of sketch.stop;
+  start = start;
+  tables = tables;
+  blocks = [];
+  steps = steps;
+  reducer_output = false;
+}
 
--- the text is that of a program whose names and kinds are right
-abbrev pub IsTypedText : List ℕ → TypedSketch → Type 0
-IsTypedText text typed = (sketch : Sketch) × IsProgramText text sketch × AreRight sketch × (typed ≡ as_typed sketch)
+abbrev pub whole : TypedSketch → Places → List Schema → List Step → Whole
+whole sketch found tables steps = record {
+  functions = sketch.functions;
+  uses = uses_of found;
+  shape = shape_of sketch found.start tables steps;
+  names = map (λ (table : TableSketch). table.name.text) sketch.tables;
+  files = map (λ (table : TableSketch). table.file) sketch.tables;
+  asked = sketch.asked;
+}
 
--- the text is that of a program of which this is the first fault of names and kinds
-abbrev pub IsMistyped : List ℕ → ℕ → What → Type 0
-IsMistyped text line what = (sketch : Sketch) × IsProgramText text sketch × HasFirst sketch line what
+-- the schemas of all streams: those of the steps, then the last output against the start table, then the distance
+abbrev pub schemas : TypedSketch → Places → List Schema → Found (List Step)
+schemas sketch found tables = do
+  state ← or_wrong (slice_get tables found.start) sketch.start.line SchemaMismatch
+  steps ← steps_typed sketch.functions tables state state found.steps
+  demand (same_schema (last_out state steps) state) (last_line 0 found.steps) SchemaMismatch
+  demand (distance_takes sketch.functions found.distance.what state) found.distance.line SchemaMismatch
+  Ok steps
 
--- what is wrong with the text in this line: its spelling, or else its first fault of names and kinds
+-- a typed program: its limits, then its names, then its schemas
+abbrev pub accepted : TypedSketch → Found Whole
+accepted sketch = do
+  limits sketch
+  found ← places sketch
+  tables ← each table_schema sketch.tables
+  steps ← schemas sketch found tables
+  Ok (whole sketch found tables steps)
+
+-- ---- texts
+
+-- the text is that of a program in which no fault is found, and which is this
+abbrev pub IsTextOfProgram : List ℕ → Whole → Type 0
+IsTextOfProgram text program = (sketch : Sketch) × IsProgramText text sketch × AreRight sketch × (accepted (as_typed sketch) ≡ Ok program)
+
+-- the first fault of a program that is well spelled: of its names and kinds, or else of its limits, the names in its steps, its schemas
+abbrev pub IsFaulty : Sketch → ℕ → What → Type 0
+IsFaulty sketch line what = HasFirst sketch line what ⊎ (AreRight sketch × (accepted (as_typed sketch) ≡ Err (At line what)))
+
+-- what is wrong with the text in this line: its spelling, or else the first fault of its program
 abbrev pub HasWrong : List ℕ → ℕ → What → Type 0
-HasWrong text line Limit = IsMisspelled text line Limit
-HasWrong text line Syntax = IsMisspelled text line Syntax
-HasWrong text line WrongKind = IsMistyped text line WrongKind
-HasWrong text line UnknownName = IsMistyped text line UnknownName
-HasWrong text line WrongCount = IsMistyped text line WrongCount
-HasWrong text line EmitMismatch = IsMistyped text line EmitMismatch
-HasWrong text line DoubleName = IsMistyped text line DoubleName
-HasWrong text line StreamMismatch = IsMistyped text line StreamMismatch
+HasWrong text line what = IsMisspelled text line what ⊎ ((sketch : Sketch) × IsProgramText text sketch × IsFaulty sketch line what)
 
--- the text is that of this typed program and of no other, and nothing is wrong with it
-pub record IsJustTyped (text : List ℕ) (typed : TypedSketch) : Type 0 where
-  pub is : IsTypedText text typed
-  pub only : (other : TypedSketch) → IsTypedText text other → other ≡ typed
+-- the text is that of this program and of no other, and nothing is wrong with it
+pub record IsJustProgram (text : List ℕ) (program : Whole) : Type 0 where
+  pub is : IsTextOfProgram text program
+  pub only : (other : Whole) → IsTextOfProgram text other → other ≡ program
   pub right : (line : ℕ) (what : What) → HasWrong text line what → ⊥
 
--- why the text is refused: something is wrong with it, and it is that of no typed program
+-- why the text is refused: something is wrong with it, and it is that of no program
 abbrev pub IsRefusedBy : List ℕ → ProgramFault → Type 0
-IsRefusedBy text (At line what) = HasWrong text line what × ((typed : TypedSketch) → IsTypedText text typed → ⊥)
+IsRefusedBy text (At line what) = HasWrong text line what × ((program : Whole) → IsTextOfProgram text program → ⊥)
 IsRefusedBy text Memory = Unit {0}
 
 -- ---- laws
-
--- a text is that of one program
-abbrev pub TextIsOfOneProgram : Type 0
-TextIsOfOneProgram = (text : List ℕ) (some other : Sketch) → IsProgramText text some → IsProgramText text other → some ≡ other
 
 -- one thing is wrong with a text, in one line
 abbrev pub OneThingIsWrong : Type 0

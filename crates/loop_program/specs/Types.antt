@@ -5,11 +5,11 @@ use Rattle.std.specs.Str.{bytes_eq}
 use Rattle.type_checker.specs.declared.fault.TypeFault.{TypeFault}
 use Rattle.type_checker.specs.declared.fault.TypeFault.TheVariants as fault
 use Rattle.type_checker.specs.Functions.{AreTyped, functions_right}
-use Rattle.loop_program.specs.declared.fault.What.{What}
-use Rattle.loop_program.specs.declared.fault.What.TheVariants.{WrongKind, UnknownName, WrongCount, EmitMismatch, DoubleName, StreamMismatch}
-use Rattle.loop_program.specs.declared.sketch.Sketch.{Sketch}
-use Rattle.loop_program.specs.declared.sketch.TableSketch.{TableSketch}
-use Rattle.loop_program.specs.declared.sketch.TypedSketch.{TypedSketch}
+use Rattle.program_sketch.specs.declared.fault.What.{What}
+use Rattle.program_sketch.specs.declared.fault.What.TheVariants.{WrongKind, UnknownName, WrongCount, EmitMismatch, DoubleName, StreamMismatch}
+use Rattle.program_sketch.specs.declared.sketch.Sketch.{Sketch}
+use Rattle.program_sketch.specs.declared.sketch.TableSketch.{TableSketch}
+use Rattle.loop_program.specs.declared.typing.TypedSketch.{TypedSketch}
 
 -- the line of the first table whose name is one of these, or that of a table before it
 abbrev pub double_table : List (List ℕ) → List TableSketch → Option ℕ

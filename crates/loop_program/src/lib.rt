@@ -1,18 +1,15 @@
-//! Whole programs: their text read, and the names and kinds in them checked.
+//! Whole programs: accepted, or refused for their first fault.
 #![tactic(auto)]
 
-mod fault;
 mod laws;
-mod parse;
-mod reader;
-mod sketch;
+mod limits;
+mod places;
+mod program;
+mod reading;
+mod schemas;
 mod typing;
 
-pub use fault::{ProgramFault, What};
-pub use laws::{a_text_is_of_one_program, one_thing_is_wrong};
-pub use parse::parse_program;
-pub use sketch::{
-    Asked, InputSketch, InputSketches, Sketch, StepSketch, StepSketches, StopSketch, TableSketch,
-    TableSketches, TypedSketch,
-};
-pub use typing::typed_program;
+pub use laws::one_thing_is_wrong;
+pub use program::{Names, Program};
+pub use program_sketch::{Asked, ProgramFault, What};
+pub use reading::read_program;

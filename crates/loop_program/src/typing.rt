@@ -1,30 +1,34 @@
 ghost use Rattle.std.specs.Prelude.{◌≡◌, [], IfErr, IfOk};
-ghost use Rattle.loop_program.specs.Programs.{IsJustTyped, IsRefusedBy};
 ghost use Rattle.loop_program.specs.Steps.{FaultIs, SaysFault};
 ghost use Rattle.loop_program.specs.Types as types;
 ghost use Rattle.loop_program.specs.Types.{AreRight, as_typed};
 
-use crate::fault::{ProgramFault, What};
-use crate::parse::parse_program;
-use crate::sketch::{Sketch, TableSketch, TypedSketch};
+use function_language::{Ident, Number};
 use hal_base::Memory;
 use name_index::NameIndex;
+use program_sketch::{
+    Asked, ProgramFault, Sketch, StepSketches, StopSketch, TableSketch, TableSketches, What,
+};
 use std::alloc::Global;
-use type_checker::{TypeFault, check};
+use type_checker::{TypeFault, Typed, check};
 
-/// The program whose text this is, with its names and kinds checked. The text is refused for the first
-/// of three passes that finds a fault: its length, its syntax, and then its names and kinds, from the
-/// tables on and through the functions in their order. docs/LANGUAGE.md, "What is refused".
-pub fn typed_program(alloc: Global, text: &[u8]) -> Result<TypedSketch, ProgramFault>
-    ensures read { IfOk result (IsJustTyped text.now) }
-    ensures refused { IfErr result (IsRefusedBy text.now) }
-{
-    let sketch = parse_program(alloc, text)?;
-    type_sketch(alloc, sketch)
+/// A program in which no table has the name of another, and whose functions are checked.
+#[derive(Drop)]
+pub(crate) struct TypedSketch {
+    pub(crate) name: Ident,
+    pub(crate) parts: Number,
+    pub(crate) rounds: Number,
+    pub(crate) stop: StopSketch,
+    pub(crate) asked: Asked,
+    pub(crate) tables: TableSketches,
+    pub(crate) functions: Typed,
+    pub(crate) start: Ident,
+    pub(crate) steps: StepSketches,
 }
 
-/// The same program, if no name and no kind in it is wrong.
-fn type_sketch(alloc: Global, sketch: Sketch) -> Result<TypedSketch, ProgramFault>
+/// The same program, if no name and no kind in it is wrong: its tables come first, and then its functions in
+/// their order. docs/LANGUAGE.md, "What is refused".
+pub(crate) fn type_sketch(alloc: Global, sketch: Sketch) -> Result<TypedSketch, ProgramFault>
     ensures typed { IfOk result (λ typed. AreRight sketch × (typed ≡ as_typed sketch)) }
     ensures refused { IfErr result (FaultIs sketch) }
 {

@@ -17,6 +17,9 @@ const EVERY: &str =
 const LEAST: &str =
     "program least;\nparts 1;\nrounds 1;\nstop exact;\ntable t \"links.tsv\" (int, int);\nbegin t;\nstep { state by same; reduce least; }\n";
 
+const OWN: &str =
+    "program own;\nparts 1;\nrounds 2;\nstop exact;\ntable t \"start.tsv\" (text, int);\ntable seen \"links.tsv\" (text, text);\nmap older(name: text, age: int) -> (text, int) { emit(name, add(age, 1)); }\nbegin t;\nstep { state by older; reduce least; }\n";
+
 const USAGE: &str =
     "error: usage: haloop run PROGRAM SCHEDULE OUT [journal=FILE] | plain PROGRAM OUT | check PROGRAM | demo N SEED\n";
 
@@ -77,6 +80,14 @@ fn chains_give_part_files(rt: HostRuntime) -> Result<(), Fail> {
             "1\t5\n2\t3\n",
             None,
             "rounds 1\nend limit\n",
+        ),
+        (
+            OWN,
+            "b\t1\na\t5\n",
+            links,
+            "a\t7\nb\t3\n",
+            None,
+            "rounds 2\nend limit\n",
         ),
     ] {
         for by_plain in [false, true] {

@@ -9,6 +9,7 @@ mod statement;
 mod typed;
 mod uses;
 
+pub use expression::same_kind;
 pub use fault::TypeFault;
 pub use typed::{Typed, check};
 pub use uses::{Use, UseMaps, UseStep, UseSteps, Uses};

@@ -1,4 +1,5 @@
-use Rattle.std.specs.Prelude.{◌≡◌, ◌≤◌, IfSome}
+use Rattle.std.specs.Prelude.{◌≡◌, ◌≤◌, IfSome, length}
+use Rattle.haloop_run.specs.Inputs.{listed}
 use Rattle.haloop_run.proofs.InputLaws.{GoesOn}
 use Rattle.haloop_run.proofs.input.read_tables.Given as goal
 
@@ -8,4 +9,7 @@ invariant-tables g l =
     (files.faults l.initial.files ≤ files.faults l.files)
     × (files.absents l.initial.files ≤ files.absents l.files)
     × (files.told l.files ≡ files.told l.initial.files)
-    × IfSome (files.told l.initial.files) (GoesOn l.form l.table-items l.table-index l.tables)
+    × IfSome (files.told l.initial.files) (GoesOn l.program (listed l.names l.paths l.schemas) l.tables)
+
+abbrev pub decreases-tables : goal.decreases-tables
+decreases-tables g l = length l.names

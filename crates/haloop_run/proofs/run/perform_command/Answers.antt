@@ -9,7 +9,7 @@ returns-in_err-write_parts-clause-refused g c =
     let files = g.F.Files in
     let r = err_from_is_err_and c.from_residual-in_err-write_parts.result c.from_residual-in_err-write_parts.ensures.1 in
     rw (r.1, r.2)
-    (writing_refused (asked_by c.args.command.now) c.in_ok-input.input.form c.in_ok-input.input.tables c.in_ok-chain.chain c.in_ok-chain.ensures
+    (writing_refused (asked_by c.args.command.now) c.in_ok-input.input.program c.in_ok-input.input.tables c.in_ok-chain.chain c.in_ok-chain.ensures
     (files.told c.args.files.now) (files.told c.accepted_input.new.files) (files.told c.write_parts.new.files) _ _ _
     c.in_ok-input.ensures.kept c.in_ok-input.ensures.found c.in_err-write_parts.ensures.partly
     (rose_before (files.faults c.args.files.now) (files.faults c.accepted_input.new.files) (files.faults c.write_parts.new.files) c.in_ok-input.ensures.faults_stay)

@@ -1,4 +1,4 @@
-use Rattle.loop_program.proofs.TypedTexts.{one_wrong}
+use Rattle.loop_program.proofs.Texts.{one_wrong}
 use Rattle.loop_program.proofs.laws.one_thing_is_wrong.Goals as goal
 
 pub returns : goal.returns

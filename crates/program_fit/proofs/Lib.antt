@@ -1,0 +1,4 @@
+mod FitMaps
+mod FitParts
+mod FitReduces
+pub mod Fitting

@@ -1,0 +1,11 @@
+pub mod GrammarCaches
+pub mod GrammarHeads
+pub mod GrammarLines
+pub mod GrammarPrograms
+pub mod GrammarSteps
+pub mod GrammarTables
+pub mod Inner
+pub mod Programs
+pub mod Shorter
+pub mod SomeStep
+pub mod StepHalves
