@@ -1721,6 +1721,30 @@ example components components.hal 5 fixpoint
 example paths paths.hal 6 fixpoint
 example words words.hal 1 limit
 
+# ranks ROUNDS THRESHOLD END PART: the example of ranks with another limit and threshold, by both commands. PART
+# is the text of its part file.
+ranks() {
+    row "ranks: at most $1 rounds, a distance below $2"
+    cp -r "$top/examples" .
+    sed "s/^rounds .*/rounds $1;/; s/^stop below [0-9]*/stop below $2/" "$top/examples/ranks/rank.hal" >p.hal
+    call run p.hal examples/ranks/one-node.txt out
+    wants 0 "rounds $3\nend $4\n"
+    wants_parts "$5"
+    rm -r out
+    call plain p.hal out
+    wants 0 "rounds $3\nend $4\n"
+    wants_parts "$5"
+}
+
+# Each round of the example, and the distances of rounds 2 and 3, which are 1572500 and 1336625.
+ranks 1 1400000 1 limit '1\t150000\n2\t1000000\n'
+ranks 2 1400000 2 limit '1\t1000000\n2\t277500\n'
+ranks 3 1 3 limit '1\t385875\n2\t1000000\n'
+ranks 9 1572501 2 close '1\t1000000\n2\t277500\n'
+ranks 3 1572500 3 close '1\t385875\n2\t1000000\n'
+ranks 9 1336626 3 close '1\t385875\n2\t1000000\n'
+ranks 3 1336625 3 limit '1\t385875\n2\t1000000\n'
+
 row 'each example is run'
 for folder in "$top"/examples/*/; do
     grep -q "^example $(basename "$folder") " "$top/tests/rows.sh" || is_wrong "no row runs $folder"
