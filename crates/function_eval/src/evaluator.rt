@@ -225,6 +225,10 @@ impl Functions for Evaluator {
         self.uses_round(self.map_of(step, source))
     }
 
+    fn map_is_same(&self, step: u32, source: u32) -> bool {
+        matches!(self.map_of(step, source), Some(Use::Same))
+    }
+
     fn partition_uses_round(&self, step: u32) -> bool {
         self.uses_round(self.partition_of(step))
     }

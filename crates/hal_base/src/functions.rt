@@ -1,4 +1,5 @@
-ghost use Rattle.std.specs.Prelude.{◌≡◌, ◌++◌, IfOk, OnOk, OnErr};
+ghost use Rattle.std.specs.Prelude.{◌≡◌, ℕ, ◌∷◌, [], ◌++◌, true, IfOk, OnOk, OnErr};
+ghost use Rattle.hal_base.specs.declared.record.Record.{Record as Row};
 ghost use Rattle.hal_base.specs.Meaning.{Meaning, RoundLaw, KeyLaw, ValueLaw};
 
 use crate::memory::Memory;
@@ -50,6 +51,10 @@ pub trait Functions {
     /// Whether the map of this source may mean something else in another round.
     fn map_uses_round(&self, step: u32, source: u32) -> bool
         ensures { result ≡ (meaning self.now).map_uses_round step source };
+
+    /// Whether the map of this source emits each record as it is. `false` says nothing.
+    fn map_is_same(&self, step: u32, source: u32) -> bool
+        ensures { result ≡ true → (round : ℕ) (row : Row) → (meaning self.now).map round step source row ≡ row ∷ [] };
 
     /// Whether the partition of this step may mean something else in another round.
     fn partition_uses_round(&self, step: u32) -> bool

@@ -11,6 +11,11 @@ use Rattle.plain_job.specs.Chain.{together}
 use Rattle.partition_shuffle.specs.Spills.{dealt, spilled}
 use Rattle.partition_shuffle.proofs.Dealing.{length-dealt, dealt_twice, dealt_end, dealt_sorted}
 
+-- a map that emits each record as it is emits the records
+pub stream_same : (means : Record → List Record) (rows : List Record) → ((row : Record) → means row ≡ row ∷ []) → stream means rows ≡ rows
+stream_same means [] same = refl
+stream_same means (row ∷ rows) same = rw (same row, stream_same means rows same) refl
+
 -- what is dealt so far, and what these splits are to add, make the whole
 pub record Dealt (m : Meaning) (i j s n : ℕ) (spilling splits all : List (List Record)) : Type 0 where
   pub many : length spilling ≡ n

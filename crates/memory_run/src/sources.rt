@@ -154,6 +154,7 @@ fn spill_parts<F: Functions>(
 }
 
 /// Adds what the map of the first source emits for a part, which then goes.
+#[tactic(auto, using(crate::proofs::Splits::stream_same))]
 fn add_part<F: Functions>(
     alloc: Global,
     functions: &F,
@@ -166,6 +167,10 @@ fn add_part<F: Functions>(
     requires parts { length spilling.old ≡ inputs.now.shape.now.parts }
     ensures { OnOk result (spilling.new ≡ dealt (F.meaning functions.now) inputs.now.round step 0 spilling.old (stream ((F.meaning functions.now).map inputs.now.round step 1) rows)) }
 {
+    // Then the part is the records themselves, and none of them is copied.
+    if inputs.shape.parts == 1 && functions.map_is_same(step, 1) {
+        return spilling.add_to_one(functions, inputs.round, step, rows);
+    }
     spilling.add(alloc, functions, inputs.round, step, 1, &rows)
 }
 

@@ -87,3 +87,14 @@ stream_more means rows k row before emitted l e none added =
 -- the last record of a list is the first of the list turned round
 pub last_first : (rows rest : List Record) (row : Record) → rows ≡ rest ++ row ∷ [] → reverse rows ≡ row ∷ reverse rest
 last_first rows rest row e = ap reverse e ∙ reverse-append rest (row ∷ [])
+
+-- of one part alone every record is
+all_in_one : (m : Meaning) (i j : ℕ) (rows : List Record) → HaveParts m i j 1 rows → part (λ key. m.partition i j key == 0) rows ≡ rows
+all_in_one m i j [] within = refl
+all_in_one m i j (row ∷ rows) within = rw (eq-eqb (m.partition i j row.key) 0 (omega arith), all_in_one m i j rows within.1) refl
+
+-- records behind those of the one part that there is are dealt
+pub dealt_to_one : (m : Meaning) (i j : ℕ) (parts : List (List Record)) (rows old more : List Record) → length parts ≡ 1 → HaveParts m i j 1 rows → old ≡ get_or parts 0 old → more ≡ old ++ rows → set parts 0 more ≡ dealt m i j 0 parts rows
+dealt_to_one m i j [] rows old more one within e added = absurd (omega arith)
+dealt_to_one m i j (first ∷ []) rows old more one within e added = rw (all_in_one m i j rows within, added, e) refl
+dealt_to_one m i j (first ∷ second ∷ parts) rows old more one within e added = absurd (omega arith)

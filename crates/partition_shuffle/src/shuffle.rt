@@ -1,4 +1,4 @@
-ghost use Rattle.std.specs.Prelude.{◌≡◌, ◌≤◌, [], ◌∷◌, length, map, replicate, IfOk, OnOk};
+ghost use Rattle.std.specs.Prelude.{◌≡◌, ◌≤◌, [], ◌∷◌, ◌++◌, length, map, replicate, IfOk, OnOk};
 ghost use Rattle.hal_base.specs.Order.{record_cmp};
 ghost use Rattle.std.specs.List.{AllByRecursion};
 ghost use Rattle.hal_base.specs.Sorted.{Ascending, sorted};
@@ -72,6 +72,22 @@ impl Spilling {
         deal(alloc, functions, round, step, source, rows, &mut self.parts)
     }
 
+    /// Adds these records to the one part that there is. After `Memory` it is as before.
+    #[tactic(auto, using(crate::proofs::Dealing::dealt_to_one))]
+    pub fn add_to_one<F: Functions>(
+        &mut self,
+        functions: &F,
+        round: u32,
+        step: u32,
+        rows: Records,
+    ) -> Result<(), Memory>
+        requires one { length self.old ≡ 1 }
+        requires within { HaveParts (F.meaning functions.now) round step 1 rows }
+        ensures { OnOk result (self.new ≡ dealt (F.meaning functions.now) round step 0 self.old rows) }
+    {
+        add_behind(rows, &mut self.parts[0])
+    }
+
     /// The parts, each sorted.
     pub fn finish(self, alloc: Global) -> Result<Parts, Memory>
         ensures parts { IfOk result (λ parts. parts ≡ map (sorted record_cmp) self) }
@@ -135,6 +151,18 @@ fn deal_emitted<F: Functions>(
         add_to_part(alloc, functions, round, step, row, parts)?;
     }
     Ok(Records::from_vec(left))
+}
+
+/// Adds records to a part, which takes their list as it stands where it has none yet.
+fn add_behind(rows: Records, part: &mut Records) -> Result<(), Memory>
+    ensures { OnOk result (part.new ≡ part.old ++ rows) }
+{
+    if part.len() == 0 {
+        *part = rows;
+        return Ok(());
+    }
+    let mut rows = rows;
+    part.append(&mut rows)
 }
 
 /// Moves a record to the part of its key.

@@ -72,6 +72,10 @@ impl Functions for LinkCounts {
         false
     }
 
+    fn map_is_same(&self, _step: u32, _source: u32) -> bool {
+        false
+    }
+
     fn partition_uses_round(&self, _step: u32) -> bool {
         false
     }
