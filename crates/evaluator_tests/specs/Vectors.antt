@@ -5,24 +5,25 @@ use Rattle.hal_base.specs.declared.value.Value.TheVariants as value
 use Rattle.function_language.specs.declared.tree.Expr.{Expr, Int, Name, Call', end_of-Expr, more_of-Expr}
 use Rattle.function_language.specs.declared.tree.Function.{Function}
 use Rattle.function_language.specs.declared.tree.Function.TheVariants.{Reduce}
-use Rattle.function_language.specs.declared.tree.Ident.{Ident}
+use Rattle.program_tokens.specs.declared.token.Ident.{Ident}
 use Rattle.function_language.specs.declared.tree.Statement.{Statement, Let, Set, For', Emit, end_of-Statement, more_of-Statement}
 use Rattle.function_language.specs.declared.tree.Stream.{Stream}
 use Rattle.operations.specs.Applied.{applied}
 use Rattle.operations.specs.declared.operation.Operation.{Operation}
 use Rattle.operations.specs.declared.operation.Operation.TheVariants.{Add, Sub, Mul, Div, Rem, Cut}
 use Rattle.type_checker.specs.Functions.{AreTyped}
-use Rattle.function_eval.specs.Functions.{reduce_emits}
+use Rattle.function_meaning.specs.Functions.{reduce_emits}
 
 -- a number below 0, or 0
 abbrev pub minus : ℕ → ℤ
 minus zero = pos 0
 minus (suc n) = negsuc n
 
--- the ends of 64 bits
+-- the greatest number of 64 bits
 abbrev pub greatest : ℤ
 greatest = pos 9223372036854775807
 
+-- the least number of 64 bits
 abbrev pub lowest : ℤ
 lowest = minus 9223372036854775808
 
@@ -54,6 +55,7 @@ counting =
 abbrev pub count : Function
 count = Reduce (ident (codes "count")) (record { name = ident (codes "k"); kind = kind.Int }) (numbers (codes "s") ∷ numbers (codes "t") ∷ []) 1 (record { kinds = kind.Int ∷ kind.Int ∷ [] }) counting
 
+-- what operations give, and what a reduce that counts emits
 pub record WorkedVectors : Type 0 where
   pub sum_at_the_end : OfNumbers Add greatest (pos 1) greatest
   pub difference_at_the_end : OfNumbers Sub lowest (pos 1) lowest

@@ -11,4 +11,4 @@ mod running_tests;
 mod value_tests;
 mod vectors;
 
-pub use vectors::worked_vectors;
+pub use vectors::{greatest_and_one, worked_vectors};

@@ -1,3 +1,2 @@
-pub mod Jobs
+pub mod Deciding
 pub mod Orders
-pub mod Parts

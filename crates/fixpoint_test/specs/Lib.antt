@@ -1,3 +1,3 @@
 pub mod Decisions
-pub mod Distances
-pub mod Walks
+pub mod Follows
+pub mod steps

@@ -1,11 +1,11 @@
 ghost use Rattle.std.specs.Prelude.{◌≡◌, map, min, sum, IfOk};
 ghost use Rattle.group_reduce.specs.Groups.{keyed_groups};
-ghost use Rattle.fixpoint_test.specs.Distances.{distance_by};
-ghost use Rattle.fixpoint_test.specs.Walks.{far_of};
+ghost use Rattle.plain_job.specs.Distances.{distance_by};
+ghost use Rattle.fixpoint_test.specs.steps.InOrder.{far_of};
 
-use crate::walk::{Walk, copy_in_order};
+use crate::in_order::{copy_in_order, stream_in_order};
 use group_reduce::{KeyGroups, next_groups};
-use hal_base::{Functions, Memory, Records, SortedStream};
+use hal_base::{Functions, Memory, Records, SortedSlice, SortedStream};
 use std::alloc::Global;
 
 /// The greatest distance, at which sums stop.
@@ -23,16 +23,16 @@ pub fn part_distance<F: Functions>(
 {
     let old_copy = copy_in_order(alloc, old)?;
     let new_copy = copy_in_order(alloc, new)?;
-    let old = Walk::new(old, &old_copy);
-    let new = Walk::new(new, &new_copy);
+    let old = stream_in_order(old, &old_copy);
+    let new = stream_in_order(new, &new_copy);
     distance_in_order(alloc, functions, old, new)
 }
 
 fn distance_in_order<'a, F: Functions>(
     alloc: Global,
     functions: &F,
-    old: Walk<'a>,
-    new: Walk<'a>,
+    old: SortedSlice<'a>,
+    new: SortedSlice<'a>,
 ) -> Result<u64, Memory>
     ensures { IfOk result (λ far. far ≡ distance_by (F.meaning functions.now).distance old.entry new.entry) }
 {

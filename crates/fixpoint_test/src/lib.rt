@@ -2,17 +2,17 @@
 //! what follows from that.
 #![tactic(auto)]
 
-ghost use Rattle.fixpoint_test.specs.Distances.{PartsSumToTheDistance};
+ghost use Rattle.fixpoint_test.specs.Follows.{DecisionsTellTheEnd};
 
 mod decision;
 mod distance;
-mod walk;
+mod in_order;
 
 pub use decision::{Next, decide};
 pub use distance::{global_distance, part_distance};
 
-/// The distance of an output is the sum of its parts' distances, as far as sums go.
+/// The decision on each round that the chain comes to tells what follows: the next, or the end.
 /// docs/SEMANTICS.md, "Distance and end".
-pub fn parts_sum_to_the_distance()
-    ensures { PartsSumToTheDistance }
+pub fn decisions_tell_the_end()
+    ensures { DecisionsTellTheEnd }
 {}

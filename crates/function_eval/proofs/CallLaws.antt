@@ -3,17 +3,17 @@ use Rattle.std.proofs.Common.{◌≡◌, ℕ, pos, List, [], ◌++◌, append-ni
 use Rattle.hal_base.specs.declared.record.Record.{Record}
 use Rattle.hal_base.specs.declared.value.Value.{Value}
 use Rattle.function_eval.specs.declared.running.Running.{Running}
-use Rattle.function_eval.specs.declared.slotted.SlotStatement.{SlotStatement}
+use Rattle.function_eval.specs.declared.resolved.ResolvedStatement.{ResolvedStatement}
 use Rattle.function_eval.specs.declared.machine.Stop.{Stop}
-use Rattle.function_eval.specs.declared.machine.Stop.TheVariants.{Nothing}
-use Rattle.function_eval.specs.Machine.{Ended, OnNothing}
-use Rattle.function_eval.specs.Optional.{or_none}
-use Rattle.function_eval.specs.Slots.{out_of, slot_all_after, slot_ran}
-use Rattle.predefined_functions.specs.Grown.{Grown}
-use Rattle.predefined_functions.proofs.Growing.{grown_back}
+use Rattle.function_eval.specs.declared.machine.Stop.TheVariants.{NoValue}
+use Rattle.function_eval.specs.steps.Machine.{Ended, OnNoValue}
+use Rattle.function_meaning.specs.Optional.{or_none}
+use Rattle.function_eval.specs.steps.Slots.{out_of, slot_all_after, slot_ran}
+use Rattle.predefined_functions.specs.steps.Extended.{Extends}
+use Rattle.predefined_functions.proofs.Extending.{extends_back}
 use Rattle.function_eval.proofs.SlotOutputs.{all_behind, behind}
 
-module _ (round : Option ℕ) (groups : List (List (List Value))) (slots : List Value) (body : List SlotStatement) (rows : List Record) where
+module _ (round : Option ℕ) (groups : List (List (List Value))) (slots : List Value) (body : List ResolvedStatement) (rows : List Record) where
   abbrev begun : List Record → Running
   begun out = record { slots = slots; out = out; given = pos 0 }
 
@@ -43,12 +43,12 @@ module _ (round : Option ℕ) (groups : List (List (List Value))) (slots : List 
           no e = cc
 
   -- a body that stops because something has no value leaves what was there
-  pub stopped : (out all back : List Record) (r : Result (Unit {0}) Stop) (stop : Stop) → Ended (slot_all_after round groups body (begun out)) r all → r ≡ Err stop → stop ≡ Nothing → out ≡ rows → Grown out all → back ≡ take (length rows) all →
+  pub stopped : (out all back : List Record) (r : Result (Unit {0}) Stop) (stop : Stop) → Ended (slot_all_after round groups body (begun out)) r all → r ≡ Err stop → stop ≡ NoValue → out ≡ rows → Extends out all → back ≡ take (length rows) all →
       back ≡ rows ++ or_none (option_map out_of (slot_ran round groups slots body))
   stopped out all back r stop ended e f same grown b =
-      let none = subst (λ stop. OnNothing stop (slot_all_after round groups body (begun out) ≡ None)) f (subst (λ r. Ended (slot_all_after round groups body (begun out)) r all) e ended) in
-      grown_back rows all back (subst (λ out. Grown out all) same grown) b ∙ nothing_behind_rows (subst (λ out. slot_all_after round groups body (begun out) ≡ None) same none)
+      let none = subst (λ stop. OnNoValue stop (slot_all_after round groups body (begun out) ≡ None)) f (subst (λ r. Ended (slot_all_after round groups body (begun out)) r all) e ended) in
+      extends_back rows all back (subst (λ out. Extends out all) same grown) b ∙ nothing_behind_rows (subst (λ out. slot_all_after round groups body (begun out) ≡ None) same none)
 
 -- what was there comes back
-pub came_back : (rows all back : List Record) → Grown rows all → back ≡ take (length rows) all → back ≡ rows
-came_back rows all back g b = grown_back rows all back g b
+pub came_back : (rows all back : List Record) → Extends rows all → back ≡ take (length rows) all → back ≡ rows
+came_back rows all back g b = extends_back rows all back g b

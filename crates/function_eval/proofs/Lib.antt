@@ -1,16 +1,11 @@
 pub mod CallLaws
 pub mod EvaluatorLaws
-pub mod FlagsLaws
 pub mod MachineCalls
 pub mod MachineStatements
-pub mod RightBodies
-pub mod RightFunctions
-pub mod RightStatements
-pub mod RightValues
 pub mod SlotExpressions
 pub mod SlotFunctions
 pub mod SlotMeanings
 pub mod SlotNames
 pub mod SlotOutputs
 pub mod SlotStatements
-pub mod SlottingLaws
+pub mod ResolvingLaws

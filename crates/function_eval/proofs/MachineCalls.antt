@@ -9,26 +9,26 @@ use Rattle.hal_base.specs.declared.value.Value.TheVariants.{Int, Text}
 use Rattle.operations.specs.Applied.{applied, of_choice, of_cut, of_numbers, of_order, of_two_texts}
 use Rattle.operations.specs.declared.operation.Operation.{Operation}
 use Rattle.operations.specs.declared.operation.Operation.TheVariants.{Add, Sub, Mul, Div, Rem, Min, Max, Eq, Ne, Lt, Le, Gt, Ge, And, Or, Not, Cat, Len, Cut, Num, Txt, Pick}
-use Rattle.function_eval.specs.declared.slotted.SlotExpr.{Row_of-SlotExpr, SlotExpr, end_of-SlotExpr, items-the_row-SlotExpr, items_hidden-the_row-SlotExpr-0, more_of-SlotExpr}
-use Rattle.function_eval.specs.declared.slotted.SlotExpr.TheBlock.{hidden-the_row-SlotExpr-0}
-use Rattle.function_eval.specs.declared.slotted.SlotExpr.TheVariants as a_slot
+use Rattle.function_eval.specs.declared.resolved.ResolvedExpr.{Row_of-ResolvedExpr, ResolvedExpr, end_of-ResolvedExpr, items-the_row-ResolvedExpr, items_hidden-the_row-ResolvedExpr-0, more_of-ResolvedExpr}
+use Rattle.function_eval.specs.declared.resolved.ResolvedExpr.TheBlock.{hidden-the_row-ResolvedExpr-0}
+use Rattle.function_eval.specs.declared.resolved.ResolvedExpr.TheVariants as a_resolved_expr
 use Rattle.function_eval.specs.declared.machine.Stop.{Stop}
-use Rattle.function_eval.specs.Machine.{Gives, slot_call, slot_record}
-use Rattle.function_eval.specs.Optional.{◌>>=◌, all_of}
-use Rattle.function_eval.specs.Slots.{slot_value, slot_values}
-use Rattle.function_eval.specs.Statements.{record_of}
+use Rattle.function_eval.specs.steps.Machine.{Gives, slot_call, slot_record}
+use Rattle.function_meaning.specs.Optional.{◌>>=◌, all_of}
+use Rattle.function_eval.specs.steps.Slots.{slot_value, slot_values}
+use Rattle.function_meaning.specs.Statements.{record_of}
 
 -- ---- rows and lists
 
 -- the arguments of a row have the values of those of its list
-pub values_of_row : (n : _) (round : Option ℕ) (slots : List Value) (row : Row_of-SlotExpr n) → slot_values round slots row ≡ map (slot_value round slots) (items-the_row-SlotExpr n row)
-values_of_row n round slots end_of-SlotExpr = refl
-values_of_row n round slots (more_of-SlotExpr arg args) = ap (◌∷◌ (slot_value round slots arg)) (values_of_row _ round slots args)
+pub values_of_row : (n : _) (round : Option ℕ) (slots : List Value) (row : Row_of-ResolvedExpr n) → slot_values round slots row ≡ map (slot_value round slots) (items-the_row-ResolvedExpr n row)
+values_of_row n round slots end_of-ResolvedExpr = refl
+values_of_row n round slots (more_of-ResolvedExpr arg args) = ap (◌∷◌ (slot_value round slots arg)) (values_of_row _ round slots args)
 
 -- a call of these arguments has the value that its operation gives for theirs
-pub call_is : (round : Option ℕ) (slots : List Value) (operation : Operation) (args : List SlotExpr) → slot_value round slots (a_slot.Call operation args) ≡ slot_call round slots operation args
+pub call_is : (round : Option ℕ) (slots : List Value) (operation : Operation) (args : List ResolvedExpr) → slot_value round slots (a_resolved_expr.Call operation args) ≡ slot_call round slots operation args
 call_is round slots operation args =
-    ap (λ values. all_of values >>= applied operation) (values_of_row _ round slots (hidden-the_row-SlotExpr-0 args) ∙ ap (map (slot_value round slots)) (items_hidden-the_row-SlotExpr-0 args))
+    ap (λ values. all_of values >>= applied operation) (values_of_row _ round slots (hidden-the_row-ResolvedExpr-0 args) ∙ ap (map (slot_value round slots)) (items_hidden-the_row-ResolvedExpr-0 args))
 
 -- ---- how many arguments an operation takes
 
@@ -110,7 +110,7 @@ many_of_all operation (Some a) (Some b) (Some c) (Some d) None = refl
 many_of_all operation (Some a) (Some b) (Some c) (Some d) (Some others) = of_many operation a b c d others
 
 -- a call of four arguments or more has no value
-pub many_arguments : (round : Option ℕ) (slots : List Value) (operation : Operation) (args : List SlotExpr) → 3 < length args → slot_call round slots operation args ≡ None
+pub many_arguments : (round : Option ℕ) (slots : List Value) (operation : Operation) (args : List ResolvedExpr) → 3 < length args → slot_call round slots operation args ≡ None
 many_arguments round slots operation [] some = absurd (omega arith)
 many_arguments round slots operation (a ∷ []) some = absurd (omega arith)
 many_arguments round slots operation (a ∷ b ∷ []) some = absurd (omega arith)
@@ -119,18 +119,18 @@ many_arguments round slots operation (a ∷ b ∷ c ∷ d ∷ others) some =
     many_of_all operation (slot_value round slots a) (slot_value round slots b) (slot_value round slots c) (slot_value round slots d) (all_of (map (slot_value round slots) others))
 
 -- what a call gives, by the slice of its arguments
-pub call_found : (round : Option ℕ) (slots : List Value) (e : SlotExpr) (operation : Operation) (args slice : List SlotExpr)
-    → e ≡ a_slot.Call operation args → slice ≡ args → slot_call round slots operation slice ≡ slot_value round slots e
+pub call_found : (round : Option ℕ) (slots : List Value) (e : ResolvedExpr) (operation : Operation) (args slice : List ResolvedExpr)
+    → e ≡ a_resolved_expr.Call operation args → slice ≡ args → slot_call round slots operation slice ≡ slot_value round slots e
 call_found round slots e operation args slice is same = ap (slot_call round slots operation) same ∙ sym (ap (slot_value round slots) is ∙ call_is round slots operation args)
 
 -- a call's value
-pub call_given : (round : Option ℕ) (slots : List Value) (e : SlotExpr) (operation : Operation) (args slice : List SlotExpr) (result : Result Value Stop)
-    → e ≡ a_slot.Call operation args → slice ≡ args → Gives (slot_call round slots operation slice) result → Gives (slot_value round slots e) result
+pub call_given : (round : Option ℕ) (slots : List Value) (e : ResolvedExpr) (operation : Operation) (args slice : List ResolvedExpr) (result : Result Value Stop)
+    → e ≡ a_resolved_expr.Call operation args → slice ≡ args → Gives (slot_call round slots operation slice) result → Gives (slot_value round slots e) result
 call_given round slots e operation args slice result is same gives = subst (λ found. Gives found result) (call_found round slots e operation args slice is same) gives
 
 -- a call's number
-pub call_number : (round : Option ℕ) (slots : List Value) (e : SlotExpr) (operation : Operation) (args slice : List SlotExpr) (result : Option ℤ)
-    → e ≡ a_slot.Call operation args → slice ≡ args → IfSome result (λ n. slot_call round slots operation slice ≡ Some (Int n)) → IfSome result (λ n. slot_value round slots e ≡ Some (Int n))
+pub call_number : (round : Option ℕ) (slots : List Value) (e : ResolvedExpr) (operation : Operation) (args slice : List ResolvedExpr) (result : Option ℤ)
+    → e ≡ a_resolved_expr.Call operation args → slice ≡ args → IfSome result (λ n. slot_call round slots operation slice ≡ Some (Int n)) → IfSome result (λ n. slot_value round slots e ≡ Some (Int n))
 call_number round slots e operation args slice result is same gives = subst (λ found. IfSome result (λ n. found ≡ Some (Int n))) (call_found round slots e operation args slice is same) gives
 
 -- ---- records
@@ -164,6 +164,6 @@ too_many_found None others more = refl
 too_many_found (Some key) others more = too_many key (length others) (all_of others) more (as_many others)
 
 -- more than eight arguments make no record
-pub too_many_arguments : (round : Option ℕ) (slots : List Value) (args : List SlotExpr) → 8 < length args → slot_record round slots args ≡ None
+pub too_many_arguments : (round : Option ℕ) (slots : List Value) (args : List ResolvedExpr) → 8 < length args → slot_record round slots args ≡ None
 too_many_arguments round slots [] more = refl
 too_many_arguments round slots (key ∷ others) more = too_many_found (slot_value round slots key) (map (slot_value round slots) others) (omega (arith, length-map others (slot_value round slots)))

@@ -7,13 +7,14 @@ use Rattle.name_index.specs.Names.{place_behind}
 use Rattle.operations.specs.declared.operation.Operation.{Operation}
 use Rattle.operations.specs.Applied.{applied}
 use Rattle.operations.specs.Operations.{operation_named}
-use Rattle.function_eval.specs.declared.slotted.SlotExpr as slot
-use Rattle.function_eval.specs.declared.slotted.SlotExpr.{SlotExpr, items-the_row-SlotExpr, items_hidden-the_row-SlotExpr-0}
-use Rattle.function_eval.specs.declared.slotted.SlotExpr.TheBlock.{hidden-the_row-SlotExpr-0}
-use Rattle.function_eval.specs.declared.slotted.SlotExpr.TheVariants as a_slot
-use Rattle.function_eval.specs.Expressions.{Named, args_values, looked_up, value_of}
-use Rattle.function_eval.specs.Optional.{◌>>=◌, all_of}
-use Rattle.function_eval.specs.Slots.{args_slotted, call_of, slot_of, slot_value, slot_values, slotted}
+use Rattle.function_eval.specs.declared.resolved.ResolvedExpr as resolved_expr
+use Rattle.function_eval.specs.declared.resolved.ResolvedExpr.{ResolvedExpr, items-the_row-ResolvedExpr, items_hidden-the_row-ResolvedExpr-0}
+use Rattle.function_eval.specs.declared.resolved.ResolvedExpr.TheBlock.{hidden-the_row-ResolvedExpr-0}
+use Rattle.function_eval.specs.declared.resolved.ResolvedExpr.TheVariants as a_resolved_expr
+use Rattle.function_meaning.specs.Expressions.{Named, args_values, looked_up, value_of}
+use Rattle.function_meaning.specs.Optional.{◌>>=◌, all_of}
+use Rattle.function_eval.specs.steps.Resolved.{args_resolved, call_of, slot_of, resolved}
+use Rattle.function_eval.specs.steps.Slots.{slot_value, slot_values}
 
 -- the names of pairs
 abbrev pub names : {A : Type 0} → Named A → List (List ℕ)
@@ -25,16 +26,16 @@ things pairs = map (λ pair. pair.1) pairs
 
 -- ---- rows and lists
 
-slot_values_of_row : (round : Option ℕ) (slots : List Value) (n : _) (row : slot.Row_of-SlotExpr n) → slot_values round slots row ≡ map (slot_value round slots) (items-the_row-SlotExpr n row)
-slot_values_of_row round slots n slot.end_of-SlotExpr = refl
-slot_values_of_row round slots n (slot.more_of-SlotExpr arg args) = ap (◌∷◌ (slot_value round slots arg)) (slot_values_of_row round slots _ args)
+slot_values_of_row : (round : Option ℕ) (slots : List Value) (n : _) (row : resolved_expr.Row_of-ResolvedExpr n) → slot_values round slots row ≡ map (slot_value round slots) (items-the_row-ResolvedExpr n row)
+slot_values_of_row round slots n resolved_expr.end_of-ResolvedExpr = refl
+slot_values_of_row round slots n (resolved_expr.more_of-ResolvedExpr arg args) = ap (◌∷◌ (slot_value round slots arg)) (slot_values_of_row round slots _ args)
 
 -- a call of these arguments
-pub call_value : (round : Option ℕ) (slots : List Value) (operation : Operation) (args : List SlotExpr) → slot_value round slots (a_slot.Call operation args) ≡ (all_of (map (slot_value round slots) args) >>= applied operation)
+pub call_value : (round : Option ℕ) (slots : List Value) (operation : Operation) (args : List ResolvedExpr) → slot_value round slots (a_resolved_expr.Call operation args) ≡ (all_of (map (slot_value round slots) args) >>= applied operation)
 call_value round slots operation args =
     ap (λ values. all_of values >>= applied operation) (
-    slot_values_of_row round slots _ (hidden-the_row-SlotExpr-0 args)
-    ∙ ap (map (slot_value round slots)) (items_hidden-the_row-SlotExpr-0 args))
+    slot_values_of_row round slots _ (hidden-the_row-ResolvedExpr-0 args)
+    ∙ ap (map (slot_value round slots)) (items_hidden-the_row-ResolvedExpr-0 args))
 
 -- ---- places
 
@@ -61,20 +62,20 @@ name_behind round name before (pair ∷ pairs) =
 
 -- ---- expressions
 
-call_means : (round : Option ℕ) (slots : List Value) (operation : Option Operation) (args : List SlotExpr) (values : List (Option Value)) → map (slot_value round slots) args ≡ values →
+call_means : (round : Option ℕ) (slots : List Value) (operation : Option Operation) (args : List ResolvedExpr) (values : List (Option Value)) → map (slot_value round slots) args ≡ values →
     slot_value round slots (call_of operation args) ≡ (operation >>= λ op. all_of values >>= applied op)
 call_means round slots None args values e = refl
 call_means round slots (Some operation) args values e = call_value round slots operation args ∙ ap (λ values. all_of values >>= applied operation) e
 
 -- an expression with slots has the value of the expression with names
 mutual
-  pub slotted_value : (round : Option ℕ) (pairs : Named Value) (e : Expr) → slot_value round (things pairs) (slotted (names pairs) e) ≡ value_of round pairs e
-  slotted_value round pairs (Int line n) = refl
-  slotted_value round pairs (Text line text) = refl
-  slotted_value round pairs (Round line) = refl
-  slotted_value round pairs (Name ident) = name_behind round ident.text [] pairs
-  slotted_value round pairs (Call' ident shape args) = call_means round (things pairs) (operation_named ident.text) (args_slotted (names pairs) args) (args_values round pairs args) (args_slotted_values round pairs args)
+  pub resolved_value : (round : Option ℕ) (pairs : Named Value) (e : Expr) → slot_value round (things pairs) (resolved (names pairs) e) ≡ value_of round pairs e
+  resolved_value round pairs (Int line n) = refl
+  resolved_value round pairs (Text line text) = refl
+  resolved_value round pairs (Round line) = refl
+  resolved_value round pairs (Name ident) = name_behind round ident.text [] pairs
+  resolved_value round pairs (Call' ident shape args) = call_means round (things pairs) (operation_named ident.text) (args_resolved (names pairs) args) (args_values round pairs args) (args_resolved_values round pairs args)
 
-  args_slotted_values : (round : Option ℕ) (pairs : Named Value) {n : _} (args : Row_of-Expr n) → map (slot_value round (things pairs)) (args_slotted (names pairs) args) ≡ args_values round pairs args
-  args_slotted_values round pairs end_of-Expr = refl
-  args_slotted_values round pairs (more_of-Expr arg args) = ap₂ (λ v vs. v ∷ vs) (slotted_value round pairs arg) (args_slotted_values round pairs args)
+  args_resolved_values : (round : Option ℕ) (pairs : Named Value) {n : _} (args : Row_of-Expr n) → map (slot_value round (things pairs)) (args_resolved (names pairs) args) ≡ args_values round pairs args
+  args_resolved_values round pairs end_of-Expr = refl
+  args_resolved_values round pairs (more_of-Expr arg args) = ap₂ (λ v vs. v ∷ vs) (resolved_value round pairs arg) (args_resolved_values round pairs args)

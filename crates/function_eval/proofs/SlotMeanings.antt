@@ -1,22 +1,24 @@
 -- A statement with slots does what the statement with names does.
 use Rattle.std.proofs.Common.{◌≡◌, ℕ, ◌+◌, ◌==◌, true, false, cond, List, [], ◌∷◌, ◌++◌, Option, None, Some, option_map, refl, sym, ap, ap₂, ◌∙◌, append_assoc, length, map, slice_get, take}
+use Rattle.std.proofs.lemmas.List.{append-nil, length-map}
 use Rattle.std.proofs.Math.Dec.{eqb-suc-suc, eqb-suc-zero, eqb-zero-suc}
 use Rattle.hal_base.specs.declared.value.Value.{Value}
 use Rattle.function_language.specs.declared.tree.Expr.{Expr}
-use Rattle.function_language.specs.declared.tree.Ident.{Ident}
+use Rattle.program_tokens.specs.declared.token.Ident.{Ident}
 use Rattle.function_language.specs.declared.tree.Statement.{Statement, Let, Set, If', For', Emit, Give, Row_of-Statement, end_of-Statement, more_of-Statement, Held-Statement-If-2, None', Some'}
 use Rattle.name_index.specs.Names.{place_of}
 use Rattle.operations.specs.Applied.{is_true}
 use Rattle.function_eval.specs.declared.running.Running.{Running}
-use Rattle.function_eval.specs.declared.slotted.SlotExpr.{SlotExpr}
-use Rattle.function_eval.specs.declared.slotted.SlotStatement.{SlotStatement}
-use Rattle.function_eval.specs.Expressions.{Named, as_number, looked_up, paired}
-use Rattle.function_eval.specs.Optional.{◌>>=◌, all_of}
-use Rattle.function_eval.specs.Slots.{Scope, all_slotted, else_slotted, for_of, ident_text, row_slotted, scope_after, set_of, slot_after, slot_all_after, slot_emitted, slot_gave, slot_leave, slot_number, slot_set, slot_turn, slot_value, slots_in, slotted, statement_slotted, with_names, with_slots}
-use Rattle.function_eval.specs.Statements.{Call, State, after, all_after, else_after, emitted, gave, leave, number_in, record_of, replaced, row_after, turn, turns, value_in, with_variables}
-use Rattle.function_eval.proofs.SlotExpressions.{names, slotted_value, things}
-use Rattle.function_eval.proofs.SlotNames.{Adds, added, after_adds, names_append, nothing_behind, row_grows, things_append, turn_adds}
-use Rattle.function_eval.proofs.SlotStatements.{Placed, for_after, found_behind, if_after, length_map, same_length, set_placed}
+use Rattle.function_eval.specs.declared.resolved.ResolvedExpr.{ResolvedExpr}
+use Rattle.function_eval.specs.declared.resolved.ResolvedStatement.{ResolvedStatement}
+use Rattle.function_meaning.specs.Expressions.{Named, as_number, looked_up, paired}
+use Rattle.function_meaning.specs.Optional.{◌>>=◌, all_of}
+use Rattle.function_eval.specs.steps.Resolved.{Scope, all_resolved, else_resolved, for_of, ident_text, row_resolved, scope_after, set_of, slots_in, resolved, statement_resolved, with_names}
+use Rattle.function_eval.specs.steps.Slots.{slot_after, slot_all_after, slot_emitted, slot_gave, slot_leave, slot_number, slot_set, slot_turn, slot_value, with_slots}
+use Rattle.function_meaning.specs.Statements.{Call, State, after, all_after, else_after, emitted, gave, leave, number_in, record_of, replaced, row_after, turn, turns, value_in, with_variables}
+use Rattle.function_eval.proofs.SlotExpressions.{names, resolved_value, things}
+use Rattle.function_eval.proofs.SlotNames.{Adds, added, after_adds, names_append, row_grows, things_append, turn_adds}
+use Rattle.function_eval.proofs.SlotStatements.{Placed, for_after, found_behind, if_after, same_length, set_placed}
 
 -- what stands in the slots
 abbrev pub placed : Call → State → Running
@@ -44,16 +46,16 @@ paired_bind (n ∷ ns) (x ∷ xs) h k e =
 module _ (call : Call) where
   -- ---- expressions
 
-  abbrev here : SlotExpr → State → Option Value
+  abbrev here : ResolvedExpr → State → Option Value
   here e s = slot_value call.round (things (call.params ++ s.variables)) e
 
-  expr_means : (s : State) (e : Expr) → here (slotted (slots_in (scope_at call s)) e) s ≡ value_in call s e
-  expr_means s e = ap (λ ns. here (slotted ns e) s) (sym (names_append call.params s.variables)) ∙ slotted_value call.round (call.params ++ s.variables) e
+  expr_means : (s : State) (e : Expr) → here (resolved (slots_in (scope_at call s)) e) s ≡ value_in call s e
+  expr_means s e = ap (λ ns. here (resolved ns e) s) (sym (names_append call.params s.variables)) ∙ resolved_value call.round (call.params ++ s.variables) e
 
-  number_means : (s : State) (e : Expr) → slot_number call.round (things (call.params ++ s.variables)) (slotted (slots_in (scope_at call s)) e) ≡ number_in call s e
+  number_means : (s : State) (e : Expr) → slot_number call.round (things (call.params ++ s.variables)) (resolved (slots_in (scope_at call s)) e) ≡ number_in call s e
   number_means s e = ap (λ o. o >>= as_number) (expr_means s e)
 
-  exprs_mean : (s : State) (es : List Expr) → map (slot_value call.round (things (call.params ++ s.variables))) (map (slotted (slots_in (scope_at call s))) es) ≡ map (value_in call s) es
+  exprs_mean : (s : State) (es : List Expr) → map (slot_value call.round (things (call.params ++ s.variables))) (map (resolved (slots_in (scope_at call s))) es) ≡ map (value_in call s) es
   exprs_mean s [] = refl
   exprs_mean s (e ∷ es) = ap₂ (λ v vs. v ∷ vs) (expr_means s e) (exprs_mean s es)
 
@@ -88,7 +90,7 @@ module _ (call : Call) where
 
   -- ---- statements
 
-  set_means : (s : State) (ident : Ident) (e : SlotExpr) (v : Option Value) (place : Option ℕ) → here e s ≡ v →
+  set_means : (s : State) (ident : Ident) (e : ResolvedExpr) (v : Option Value) (place : Option ℕ) → here e s ≡ v →
       ((v : Value) → Placed (things call.params) v s.variables (option_map (λ i. length (things call.params) + i) place) (replaced ident.text v s.variables)) →
       slot_after call.round (things call.groups) (set_of (length (names call.params)) place e) (placed call s) ≡ option_map (placed call) (v >>= (λ v. replaced ident.text v s.variables >>= (λ variables. Some (with_variables variables s))))
   set_means s ident e None None is p = refl
@@ -117,22 +119,22 @@ module _ (call : Call) where
       ap (λ o. o >>= turns f group) (same fields s e)
       ∙ (elim (g fields s) as (λ o. Adds s [] o → (option_map (placed call) o >>= turns f group) ≡ option_map (placed call) (o >>= turns g group)) [
         | None ↦ λ a. refl
-        | Some done ↦ λ a. turns_mean ns f g same keeps group done (a ∙ nothing_behind (names s.variables) ∙ e)
+        | Some done ↦ λ a. turns_mean ns f g same keeps group done (a ∙ append-nil (names s.variables) ∙ e)
       ] (keeps fields s))
 
   scope_is : (s done : State) (st : Statement) → names done.variables ≡ names s.variables ++ added st → scope_after (scope_at call s) st ≡ scope_at call done
   scope_is s done (Let ident value) e = ap (λ ns. record { params = names call.params; variables = ns; streams = names call.groups }) (sym e)
-  scope_is s done (Set ident value) e = ap (λ ns. record { params = names call.params; variables = ns; streams = names call.groups }) (sym (e ∙ nothing_behind (names s.variables)))
-  scope_is s done (If' test shape chosen other) e = ap (λ ns. record { params = names call.params; variables = ns; streams = names call.groups }) (sym (e ∙ nothing_behind (names s.variables)))
-  scope_is s done (For' idents stream shape body) e = ap (λ ns. record { params = names call.params; variables = ns; streams = names call.groups }) (sym (e ∙ nothing_behind (names s.variables)))
-  scope_is s done (Emit line args) e = ap (λ ns. record { params = names call.params; variables = ns; streams = names call.groups }) (sym (e ∙ nothing_behind (names s.variables)))
-  scope_is s done (Give line value) e = ap (λ ns. record { params = names call.params; variables = ns; streams = names call.groups }) (sym (e ∙ nothing_behind (names s.variables)))
+  scope_is s done (Set ident value) e = ap (λ ns. record { params = names call.params; variables = ns; streams = names call.groups }) (sym (e ∙ append-nil (names s.variables)))
+  scope_is s done (If' test shape chosen other) e = ap (λ ns. record { params = names call.params; variables = ns; streams = names call.groups }) (sym (e ∙ append-nil (names s.variables)))
+  scope_is s done (For' idents stream shape body) e = ap (λ ns. record { params = names call.params; variables = ns; streams = names call.groups }) (sym (e ∙ append-nil (names s.variables)))
+  scope_is s done (Emit line args) e = ap (λ ns. record { params = names call.params; variables = ns; streams = names call.groups }) (sym (e ∙ append-nil (names s.variables)))
+  scope_is s done (Give line value) e = ap (λ ns. record { params = names call.params; variables = ns; streams = names call.groups }) (sym (e ∙ append-nil (names s.variables)))
 
-  abbrev does : List SlotStatement → Running → Option Running
+  abbrev does : List ResolvedStatement → Running → Option Running
   does statements s = slot_all_after call.round (things call.groups) statements s
 
   -- a body under names that a loop adds
-  turn_means : (body : Scope → List SlotStatement) (row : State → Option State) (means : (s : State) → does (body (scope_at call s)) (placed call s) ≡ option_map (placed call) (row s))
+  turn_means : (body : Scope → List ResolvedStatement) (row : State → Option State) (means : (s : State) → does (body (scope_at call s)) (placed call s) ≡ option_map (placed call) (row s))
       (idents : List Ident) (fields : List Value) (s : State) →
       slot_turn (does (body (with_names (map ident_text idents) (scope_at call s)))) (length idents) fields (placed call s) ≡ option_map (placed call) (turn row idents fields s)
   turn_means body row means idents fields s =
@@ -151,9 +153,9 @@ module _ (call : Call) where
       ∙ ap₂ (λ ns slots. does (body (record { params = names call.params; variables = ns; streams = names call.groups })) (with s slots))
       (names_append s.variables pairs ∙ ap (λ ns. names s.variables ++ ns) of_names)
       (sym (slots_more s.variables pairs) ∙ ap (λ xs. things (call.params ++ s.variables) ++ xs) of_things)))
-      ∙ ap (λ n. cond (length fields == n) (option_map (slot_leave (placed call s)) (run (with_slots (things (call.params ++ s.variables) ++ fields) (placed call s)))) None) (length_map ident_text idents))
+      ∙ ap (λ n. cond (length fields == n) (option_map (slot_leave (placed call s)) (run (with_slots (things (call.params ++ s.variables) ++ fields) (placed call s)))) None) (length-map idents ident_text))
 
-  for_means : (body : Scope → List SlotStatement) (row : State → Option State) (means : (s : State) → does (body (scope_at call s)) (placed call s) ≡ option_map (placed call) (row s))
+  for_means : (body : Scope → List ResolvedStatement) (row : State → Option State) (means : (s : State) → does (body (scope_at call s)) (placed call s) ≡ option_map (placed call) (row s))
       (keeps : (idents : List Ident) (fields : List Value) (s : State) → Adds s [] (turn row idents fields s))
       (idents : List Ident) (place : Option ℕ) (group : Option (List (List Value))) (s : State) → (place >>= slice_get (things call.groups)) ≡ group →
       slot_after call.round (things call.groups) (for_of place (length idents) (body (with_names (map ident_text idents) (scope_at call s)))) (placed call s)
@@ -171,28 +173,28 @@ module _ (call : Call) where
 
   -- a statement with slots does what the statement does
   mutual
-    pub statement_means : (st : Statement) (s : State) → slot_after call.round (things call.groups) (statement_slotted (scope_at call s) st) (placed call s) ≡ option_map (placed call) (after call st s)
+    pub statement_means : (st : Statement) (s : State) → slot_after call.round (things call.groups) (statement_resolved (scope_at call s) st) (placed call s) ≡ option_map (placed call) (after call st s)
     statement_means (Let ident value) s =
         ap (λ o. o >>= (λ v. Some (with s (things (call.params ++ s.variables) ++ v ∷ [])))) (expr_means s value)
         ∙ (elim (value_in call s value) as (λ o. (o >>= (λ v. Some (with s (things (call.params ++ s.variables) ++ v ∷ [])))) ≡ option_map (placed call) (o >>= (λ v. Some (with_variables (s.variables ++ (ident.text, v) ∷ []) s)))) [
           | None ↦ refl
           | Some v ↦ ap (λ slots. Some (with s slots)) (slots_more s.variables ((ident.text, v) ∷ []))
         ])
-    statement_means (Set ident value) s = set_means s ident (slotted (slots_in (scope_at call s)) value) (value_in call s value) (place_of ident.text (names s.variables)) (expr_means s value) (λ v. set_placed (things call.params) ident.text v s.variables)
+    statement_means (Set ident value) s = set_means s ident (resolved (slots_in (scope_at call s)) value) (value_in call s value) (place_of ident.text (names s.variables)) (expr_means s value) (λ v. set_placed (things call.params) ident.text v s.variables)
     statement_means (If' test shape chosen other) s =
-        if_after call.round (things call.groups) (slotted (slots_in (scope_at call s)) test) (row_slotted (scope_at call s) chosen) (else_slotted (scope_at call s) other) (placed call s)
-        ∙ ap (λ o. o >>= (λ n. cond (is_true n) (does (row_slotted (scope_at call s) chosen) (placed call s)) (does (else_slotted (scope_at call s) other) (placed call s)) >>= (λ done. Some (slot_leave (placed call s) done)))) (number_means s test)
-        ∙ (elim (number_in call s test) as (λ o. (o >>= (λ n. cond (is_true n) (does (row_slotted (scope_at call s) chosen) (placed call s)) (does (else_slotted (scope_at call s) other) (placed call s)) >>= (λ done. Some (slot_leave (placed call s) done))))
+        if_after call.round (things call.groups) (resolved (slots_in (scope_at call s)) test) (row_resolved (scope_at call s) chosen) (else_resolved (scope_at call s) other) (placed call s)
+        ∙ ap (λ o. o >>= (λ n. cond (is_true n) (does (row_resolved (scope_at call s) chosen) (placed call s)) (does (else_resolved (scope_at call s) other) (placed call s)) >>= (λ done. Some (slot_leave (placed call s) done)))) (number_means s test)
+        ∙ (elim (number_in call s test) as (λ o. (o >>= (λ n. cond (is_true n) (does (row_resolved (scope_at call s) chosen) (placed call s)) (does (else_resolved (scope_at call s) other) (placed call s)) >>= (λ done. Some (slot_leave (placed call s) done))))
         ≡ option_map (placed call) (o >>= (λ n. cond (is_true n) (row_after call chosen s) (else_after call other s) >>= (λ done. Some (leave s done))))) [
           | None ↦ refl
-          | Some n ↦ elim (is_true n) as (λ b. (cond b (does (row_slotted (scope_at call s) chosen) (placed call s)) (does (else_slotted (scope_at call s) other) (placed call s)) >>= (λ done. Some (slot_leave (placed call s) done)))
+          | Some n ↦ elim (is_true n) as (λ b. (cond b (does (row_resolved (scope_at call s) chosen) (placed call s)) (does (else_resolved (scope_at call s) other) (placed call s)) >>= (λ done. Some (slot_leave (placed call s) done)))
               ≡ option_map (placed call) (cond b (row_after call chosen s) (else_after call other s) >>= (λ done. Some (leave s done)))) [
                 | true ↦ ap (λ o. o >>= (λ done. Some (slot_leave (placed call s) done))) (row_means chosen s) ∙ left_means s (row_after call chosen s)
                 | false ↦ ap (λ o. o >>= (λ done. Some (slot_leave (placed call s) done))) (else_means other s) ∙ left_means s (else_after call other s)
               ]
         ])
     statement_means (For' idents stream shape body) s =
-        for_means (λ scope. row_slotted scope body) (row_after call body) (λ s. row_means body s) (λ idents fields s. turn_adds (row_after call body) (λ s. row_grows call body s) idents fields s)
+        for_means (λ scope. row_resolved scope body) (row_after call body) (λ s. row_means body s) (λ idents fields s. turn_adds (row_after call body) (λ s. row_grows call body s) idents fields s)
         idents (place_of stream.text (names call.groups)) (looked_up stream.text call.groups) s (found_behind stream.text [] call.groups)
     statement_means (Emit line args) s =
         ap (λ vs. all_of vs >>= (λ values. record_of values >>= (λ row. Some (slot_emitted row (placed call s))))) (exprs_mean s args)
@@ -204,25 +206,25 @@ module _ (call : Call) where
         ap (λ o. o >>= (λ n. Some (slot_gave n (placed call s)))) (number_means s value)
         ∙ (elim (number_in call s value) as (λ o. (o >>= (λ n. Some (slot_gave n (placed call s)))) ≡ option_map (placed call) (o >>= (λ n. Some (gave n s)))) [ None ↦ refl | Some n ↦ refl ])
 
-    else_means : (other : Held-Statement-If-2) (s : State) → does (else_slotted (scope_at call s) other) (placed call s) ≡ option_map (placed call) (else_after call other s)
+    else_means : (other : Held-Statement-If-2) (s : State) → does (else_resolved (scope_at call s) other) (placed call s) ≡ option_map (placed call) (else_after call other s)
     else_means None' s = refl
     else_means (Some' shape row) s = row_means row s
 
-    row_means : {n : _} (row : Row_of-Statement n) (s : State) → does (row_slotted (scope_at call s) row) (placed call s) ≡ option_map (placed call) (row_after call row s)
+    row_means : {n : _} (row : Row_of-Statement n) (s : State) → does (row_resolved (scope_at call s) row) (placed call s) ≡ option_map (placed call) (row_after call row s)
     row_means end_of-Statement s = refl
     row_means (more_of-Statement st sts) s =
-        ap (λ o. o >>= does (row_slotted (scope_after (scope_at call s) st) sts)) (statement_means st s)
-        ∙ (elim (after call st s) as (λ o. Adds s (added st) o → (option_map (placed call) o >>= does (row_slotted (scope_after (scope_at call s) st) sts)) ≡ option_map (placed call) (o >>= row_after call sts)) [
+        ap (λ o. o >>= does (row_resolved (scope_after (scope_at call s) st) sts)) (statement_means st s)
+        ∙ (elim (after call st s) as (λ o. Adds s (added st) o → (option_map (placed call) o >>= does (row_resolved (scope_after (scope_at call s) st) sts)) ≡ option_map (placed call) (o >>= row_after call sts)) [
           | None ↦ λ a. refl
-          | Some done ↦ λ a. ap (λ scope. does (row_slotted scope sts) (placed call done)) (scope_is s done st a) ∙ row_means sts done
+          | Some done ↦ λ a. ap (λ scope. does (row_resolved scope sts) (placed call done)) (scope_is s done st a) ∙ row_means sts done
         ] (after_adds call st s))
 
   -- a body with slots does what the body does
-  pub body_means : (body : List Statement) (s : State) → does (all_slotted (scope_at call s) body) (placed call s) ≡ option_map (placed call) (all_after call body s)
+  pub body_means : (body : List Statement) (s : State) → does (all_resolved (scope_at call s) body) (placed call s) ≡ option_map (placed call) (all_after call body s)
   body_means [] s = refl
   body_means (st ∷ sts) s =
-      ap (λ o. o >>= does (all_slotted (scope_after (scope_at call s) st) sts)) (statement_means st s)
-      ∙ (elim (after call st s) as (λ o. Adds s (added st) o → (option_map (placed call) o >>= does (all_slotted (scope_after (scope_at call s) st) sts)) ≡ option_map (placed call) (o >>= all_after call sts)) [
+      ap (λ o. o >>= does (all_resolved (scope_after (scope_at call s) st) sts)) (statement_means st s)
+      ∙ (elim (after call st s) as (λ o. Adds s (added st) o → (option_map (placed call) o >>= does (all_resolved (scope_after (scope_at call s) st) sts)) ≡ option_map (placed call) (o >>= all_after call sts)) [
         | None ↦ λ a. refl
-        | Some done ↦ λ a. ap (λ scope. does (all_slotted scope sts) (placed call done)) (scope_is s done st a) ∙ body_means sts done
+        | Some done ↦ λ a. ap (λ scope. does (all_resolved scope sts) (placed call done)) (scope_is s done st a) ∙ body_means sts done
       ] (after_adds call st s))

@@ -1,13 +1,14 @@
 -- The names of variables behind statements.
 use Rattle.std.proofs.Common.{◌≡◌, ℕ, true, false, cond, List, [], ◌∷◌, ◌++◌, Option, None, Some, option_map, refl, sym, ap, ap₂, ◌∙◌, append_assoc, drop, get_or, length, map, take}
+use Rattle.std.proofs.lemmas.List.{append-nil}
 use Rattle.std.specs.Str.{bytes_eq}
 use Rattle.hal_base.specs.declared.value.Value.{Value}
-use Rattle.function_language.specs.declared.tree.Ident.{Ident}
+use Rattle.program_tokens.specs.declared.token.Ident.{Ident}
 use Rattle.function_language.specs.declared.tree.Statement.{Statement, Let, Set, If', For', Emit, Give, Row_of-Statement, end_of-Statement, more_of-Statement, Held-Statement-If-2, None', Some'}
 use Rattle.operations.specs.Applied.{is_true}
-use Rattle.function_eval.specs.Expressions.{Named, looked_up, paired}
-use Rattle.function_eval.specs.Optional.{◌>>=◌, all_of}
-use Rattle.function_eval.specs.Statements.{Call, State, after, else_after, emitted, gave, leave, number_in, record_of, replaced, row_after, turn, turns, value_in, with_variables}
+use Rattle.function_meaning.specs.Expressions.{Named, looked_up, paired}
+use Rattle.function_meaning.specs.Optional.{◌>>=◌, all_of}
+use Rattle.function_meaning.specs.Statements.{Call, State, after, else_after, emitted, gave, leave, number_in, record_of, replaced, row_after, turn, turns, value_in, with_variables}
 use Rattle.function_eval.proofs.SlotExpressions.{names, things}
 
 -- the names of two lists of pairs
@@ -18,10 +19,6 @@ names_append (x ∷ xs) ys = ap (◌∷◌ x.0) (names_append xs ys)
 pub things_append : {A : Type 0} (xs ys : Named A) → things (xs ++ ys) ≡ things xs ++ things ys
 things_append [] ys = refl
 things_append (x ∷ xs) ys = ap (◌∷◌ x.1) (things_append xs ys)
-
-pub nothing_behind : {A : Type 0} (xs : List A) → xs ++ [] ≡ xs
-nothing_behind [] = refl
-nothing_behind (x ∷ xs) = ap (◌∷◌ x) (nothing_behind xs)
 
 -- of pairs whose names begin with those of others, as many as there are of these
 take_names : {A : Type 0} (xs ys : Named A) (more : List (List ℕ)) → names ys ≡ names xs ++ more → names (take (length xs) ys) ≡ names xs
@@ -58,12 +55,12 @@ grows_then s more None k a h = tt
 grows_then s more (Some done) k a h = grown s done more (k done) a (h done)
 
 stays : (s : State) → Adds s [] (Some s)
-stays s = sym (nothing_behind (names s.variables))
+stays s = sym (append-nil (names s.variables))
 
 -- behind a block, the names are those before it
 left : (s : State) (o : Option State) → Grows s o → Adds s [] (o >>= (λ done. Some (leave s done)))
 left s None g = tt
-left s (Some done) g = take_names s.variables done.variables g.0 g.1 ∙ sym (nothing_behind (names s.variables))
+left s (Some done) g = take_names s.variables done.variables g.0 g.1 ∙ sym (append-nil (names s.variables))
 
 pub turn_adds : (body : State → Option State) (h : (s : State) → Grows s (body s)) (idents : List Ident) (fields : List Value) (s : State) → Adds s [] (turn body idents fields s)
 turn_adds body h idents fields s =
@@ -97,7 +94,7 @@ replaced_names name v (pair ∷ pairs) =
 
 set_adds : (s : State) (o : Option (Named Value)) → SameNames s.variables o → Adds s [] (o >>= (λ variables. Some (with_variables variables s)))
 set_adds s None e = tt
-set_adds s (Some variables) e = e ∙ sym (nothing_behind (names s.variables))
+set_adds s (Some variables) e = e ∙ sym (append-nil (names s.variables))
 
 -- the name that a statement adds to its block
 abbrev pub added : Statement → List (List ℕ)

@@ -4,11 +4,11 @@ use Rattle.hal_base.specs.declared.record.Record.{Record}
 use Rattle.hal_base.specs.declared.value.Value.{Value}
 use Rattle.operations.specs.Applied.{is_true}
 use Rattle.function_eval.specs.declared.running.Running.{Running}
-use Rattle.function_eval.specs.declared.slotted.SlotStatement as order
-use Rattle.function_eval.specs.declared.slotted.SlotStatement.{SlotStatement}
-use Rattle.function_eval.specs.Optional.{◌>>=◌, all_of}
-use Rattle.function_eval.specs.Slots.{slot_after, slot_all_after, slot_leave, slot_number, slot_row_after, slot_set, slot_turn, slot_value, with_slots}
-use Rattle.function_eval.specs.Statements.{record_of, turns}
+use Rattle.function_eval.specs.declared.resolved.ResolvedStatement as resolved_statement
+use Rattle.function_eval.specs.declared.resolved.ResolvedStatement.{ResolvedStatement}
+use Rattle.function_meaning.specs.Optional.{◌>>=◌, all_of}
+use Rattle.function_eval.specs.steps.Slots.{slot_after, slot_all_after, slot_leave, slot_number, slot_row_after, slot_set, slot_turn, slot_value, with_slots}
+use Rattle.function_meaning.specs.Statements.{record_of, turns}
 
 -- what was emitted stands behind these records
 abbrev pub behind : List Record → Running → Running
@@ -40,28 +40,28 @@ module _ (round : Option ℕ) (groups : List (List (List Value))) (rows : List R
   map_behind (Some a) k k' h = h a
 
   mutual
-    after_behind : (st : SlotStatement) (s : Running) → slot_after round groups st (behind rows s) ≡ option_map (behind rows) (slot_after round groups st s)
-    after_behind (order.Let expr) s = map_behind (slot_value round s.slots expr) _ _ (λ v. refl)
-    after_behind (order.Set place expr) s = map_behind (slot_value round s.slots expr) _ _ (λ v. map_behind (slot_set place v s.slots) _ _ (λ slots. refl))
-    after_behind (order.If' test shape chosen shape' other) s =
+    after_behind : (st : ResolvedStatement) (s : Running) → slot_after round groups st (behind rows s) ≡ option_map (behind rows) (slot_after round groups st s)
+    after_behind (resolved_statement.Let expr) s = map_behind (slot_value round s.slots expr) _ _ (λ v. refl)
+    after_behind (resolved_statement.Set place expr) s = map_behind (slot_value round s.slots expr) _ _ (λ v. map_behind (slot_set place v s.slots) _ _ (λ slots. refl))
+    after_behind (resolved_statement.If' test shape chosen shape' other) s =
         map_behind (slot_number round s.slots test) _ _ (λ n.
         elim (is_true n) as (λ b. (cond b (slot_row_after round groups chosen (behind rows s)) (slot_row_after round groups other (behind rows s)) >>= (λ done. Some (slot_leave (behind rows s) done)))
         ≡ option_map (behind rows) (cond b (slot_row_after round groups chosen s) (slot_row_after round groups other s) >>= (λ done. Some (slot_leave s done)))) [
           | true ↦ ap (λ o. o >>= (λ done. Some (slot_leave (behind rows s) done))) (row_behind chosen s) ∙ then_behind (slot_row_after round groups chosen s) _ _ (λ done. refl)
           | false ↦ ap (λ o. o >>= (λ done. Some (slot_leave (behind rows s) done))) (row_behind other s) ∙ then_behind (slot_row_after round groups other s) _ _ (λ done. refl)
         ])
-    after_behind (order.For' stream fields shape body) s =
+    after_behind (resolved_statement.For' stream fields shape body) s =
         map_behind (slice_get groups stream) _ _ (λ group. turns_behind (slot_turn (slot_row_after round groups body) fields) (λ fs s. turn_behind (slot_row_after round groups body) (λ s. row_behind body s) fields fs s) group s)
-    after_behind (order.Emit args) s =
+    after_behind (resolved_statement.Emit args) s =
         map_behind (all_of (map (slot_value round s.slots) args)) _ _ (λ values. map_behind (record_of values) _ _ (λ row. ap (λ out. Some (record { slots = s.slots; out = out; given = s.given })) (append_assoc rows s.out (row ∷ []))))
-    after_behind (order.Give expr) s = map_behind (slot_number round s.slots expr) _ _ (λ n. refl)
-    after_behind order.Nothing s = refl
+    after_behind (resolved_statement.Give expr) s = map_behind (slot_number round s.slots expr) _ _ (λ n. refl)
+    after_behind resolved_statement.Unresolved s = refl
 
-    row_behind : {n : _} (row : order.Row_of-SlotStatement n) (s : Running) → slot_row_after round groups row (behind rows s) ≡ option_map (behind rows) (slot_row_after round groups row s)
-    row_behind order.end_of-SlotStatement s = refl
-    row_behind (order.more_of-SlotStatement st sts) s = ap (λ o. o >>= slot_row_after round groups sts) (after_behind st s) ∙ then_behind (slot_after round groups st s) _ _ (λ done. row_behind sts done)
+    row_behind : {n : _} (row : resolved_statement.Row_of-ResolvedStatement n) (s : Running) → slot_row_after round groups row (behind rows s) ≡ option_map (behind rows) (slot_row_after round groups row s)
+    row_behind resolved_statement.end_of-ResolvedStatement s = refl
+    row_behind (resolved_statement.more_of-ResolvedStatement st sts) s = ap (λ o. o >>= slot_row_after round groups sts) (after_behind st s) ∙ then_behind (slot_after round groups st s) _ _ (λ done. row_behind sts done)
 
   -- statements do the same behind these records
-  pub all_behind : (sts : List SlotStatement) (s : Running) → slot_all_after round groups sts (behind rows s) ≡ option_map (behind rows) (slot_all_after round groups sts s)
+  pub all_behind : (sts : List ResolvedStatement) (s : Running) → slot_all_after round groups sts (behind rows s) ≡ option_map (behind rows) (slot_all_after round groups sts s)
   all_behind [] s = refl
   all_behind (st ∷ sts) s = ap (λ o. o >>= slot_all_after round groups sts) (after_behind st s) ∙ then_behind (slot_after round groups st s) _ _ (all_behind sts)

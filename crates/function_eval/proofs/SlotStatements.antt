@@ -1,5 +1,5 @@
 -- A statement with slots does what the statement with names does.
-use Rattle.std.proofs.Common.{◌≡◌, ℕ, ◌+◌, ◌==◌, suc, ◌<◌, true, false, cond, List, [], ◌∷◌, ◌++◌, Option, None, Some, option_map, refl, sym, ap, ap₂, ◌∙◌, subst, append_assoc, arith, length, map, set, slice_get}
+use Rattle.std.proofs.Common.{◌≡◌, ℕ, ◌+◌, ◌==◌, suc, ◌<◌, true, false, cond, List, [], ◌∷◌, ◌++◌, Option, None, Some, option_map, refl, sym, ap, ap₂, ◌∙◌, subst, append_assoc, arith, length, set, slice_get}
 use Rattle.std.proofs.lemmas.Bool.{lt-ltb}
 use Rattle.std.proofs.lemmas.List.{length-append}
 use Rattle.std.proofs.Math.Seq.{set-append_seam}
@@ -8,32 +8,32 @@ use Rattle.hal_base.specs.declared.value.Value.{Value}
 use Rattle.name_index.specs.Names.{place_behind, place_of}
 use Rattle.operations.specs.Applied.{is_true}
 use Rattle.function_eval.specs.declared.running.Running.{Running}
-use Rattle.function_eval.specs.declared.slotted.SlotExpr.{SlotExpr}
-use Rattle.function_eval.specs.declared.slotted.SlotStatement as order
-use Rattle.function_eval.specs.declared.slotted.SlotStatement.{SlotStatement, items-the_row-SlotStatement, items_hidden-the_row-SlotStatement-0}
-use Rattle.function_eval.specs.declared.slotted.SlotStatement.TheBlock.{hidden-the_row-SlotStatement-0}
-use Rattle.function_eval.specs.declared.slotted.SlotStatement.TheVariants as an_order
-use Rattle.function_eval.specs.Expressions.{Named, looked_up}
-use Rattle.function_eval.specs.Optional.{◌>>=◌}
-use Rattle.function_eval.specs.Slots.{slot_after, slot_all_after, slot_leave, slot_number, slot_row_after, slot_set, slot_turn, with_slots}
-use Rattle.function_eval.specs.Statements.{replaced, turns}
+use Rattle.function_eval.specs.declared.resolved.ResolvedExpr.{ResolvedExpr}
+use Rattle.function_eval.specs.declared.resolved.ResolvedStatement as resolved_statement
+use Rattle.function_eval.specs.declared.resolved.ResolvedStatement.{ResolvedStatement, items-the_row-ResolvedStatement, items_hidden-the_row-ResolvedStatement-0}
+use Rattle.function_eval.specs.declared.resolved.ResolvedStatement.TheBlock.{hidden-the_row-ResolvedStatement-0}
+use Rattle.function_eval.specs.declared.resolved.ResolvedStatement.TheVariants as a_resolved_statement
+use Rattle.function_meaning.specs.Expressions.{Named, looked_up}
+use Rattle.function_meaning.specs.Optional.{◌>>=◌}
+use Rattle.function_eval.specs.steps.Slots.{slot_after, slot_all_after, slot_leave, slot_number, slot_row_after, slot_set, slot_turn, with_slots}
+use Rattle.function_meaning.specs.Statements.{replaced, turns}
 use Rattle.function_eval.proofs.SlotExpressions.{behind_list, names, one_more, things}
 
 module _ (round : Option ℕ) (groups : List (List (List Value))) where
-  pub slot_row_is : (n : _) (row : order.Row_of-SlotStatement n) (s : Running) → slot_row_after round groups row s ≡ slot_all_after round groups (items-the_row-SlotStatement n row) s
-  slot_row_is n order.end_of-SlotStatement s = refl
-  slot_row_is n (order.more_of-SlotStatement st sts) s =
-      elim (slot_after round groups st s) as (λ o. (o >>= (λ done. slot_row_after round groups sts done)) ≡ (o >>= slot_all_after round groups (items-the_row-SlotStatement _ sts))) [
+  pub slot_row_is : (n : _) (row : resolved_statement.Row_of-ResolvedStatement n) (s : Running) → slot_row_after round groups row s ≡ slot_all_after round groups (items-the_row-ResolvedStatement n row) s
+  slot_row_is n resolved_statement.end_of-ResolvedStatement s = refl
+  slot_row_is n (resolved_statement.more_of-ResolvedStatement st sts) s =
+      elim (slot_after round groups st s) as (λ o. (o >>= (λ done. slot_row_after round groups sts done)) ≡ (o >>= slot_all_after round groups (items-the_row-ResolvedStatement _ sts))) [
         | None ↦ refl
         | Some done ↦ slot_row_is _ sts done
       ]
 
-  row_of_list : (statements : List SlotStatement) (s : Running) → slot_row_after round groups (hidden-the_row-SlotStatement-0 statements) s ≡ slot_all_after round groups statements s
-  row_of_list statements s = slot_row_is _ (hidden-the_row-SlotStatement-0 statements) s ∙ ap (λ statements. slot_all_after round groups statements s) (items_hidden-the_row-SlotStatement-0 statements)
+  row_of_list : (statements : List ResolvedStatement) (s : Running) → slot_row_after round groups (hidden-the_row-ResolvedStatement-0 statements) s ≡ slot_all_after round groups statements s
+  row_of_list statements s = slot_row_is _ (hidden-the_row-ResolvedStatement-0 statements) s ∙ ap (λ statements. slot_all_after round groups statements s) (items_hidden-the_row-ResolvedStatement-0 statements)
 
   -- an `if` with these statements
-  pub if_after : (test : SlotExpr) (chosen other : List SlotStatement) (s : Running) →
-      slot_after round groups (an_order.If test chosen other) s ≡ (slot_number round s.slots test >>= (λ n. cond (is_true n) (slot_all_after round groups chosen s) (slot_all_after round groups other s) >>= (λ done. Some (slot_leave s done))))
+  pub if_after : (test : ResolvedExpr) (chosen other : List ResolvedStatement) (s : Running) →
+      slot_after round groups (a_resolved_statement.If test chosen other) s ≡ (slot_number round s.slots test >>= (λ n. cond (is_true n) (slot_all_after round groups chosen s) (slot_all_after round groups other s) >>= (λ done. Some (slot_leave s done))))
   if_after test chosen other s =
       ap₂ (λ a b. slot_number round s.slots test >>= (λ n. cond (is_true n) a b >>= (λ done. Some (slot_leave s done)))) (row_of_list chosen s) (row_of_list other s)
 
@@ -44,10 +44,10 @@ module _ (round : Option ℕ) (groups : List (List (List Value))) where
       ∙ (elim (g fields s) as (λ o. (o >>= turns f group) ≡ (o >>= turns g group)) [ None ↦ refl | Some done ↦ same_turns f g h group done ])
 
   -- a `for` with these statements
-  pub for_after : (stream count : ℕ) (body : List SlotStatement) (s : Running) →
-      slot_after round groups (an_order.For stream count body) s ≡ (slice_get groups stream >>= (λ group. turns (slot_turn (slot_all_after round groups body) count) group s))
+  pub for_after : (stream count : ℕ) (body : List ResolvedStatement) (s : Running) →
+      slot_after round groups (a_resolved_statement.For stream count body) s ≡ (slice_get groups stream >>= (λ group. turns (slot_turn (slot_all_after round groups body) count) group s))
   for_after stream count body s =
-      elim (slice_get groups stream) as (λ o. (o >>= (λ group. turns (slot_turn (slot_row_after round groups (hidden-the_row-SlotStatement-0 body)) count) group s)) ≡ (o >>= (λ group. turns (slot_turn (slot_all_after round groups body) count) group s))) [
+      elim (slice_get groups stream) as (λ o. (o >>= (λ group. turns (slot_turn (slot_row_after round groups (hidden-the_row-ResolvedStatement-0 body)) count) group s)) ≡ (o >>= (λ group. turns (slot_turn (slot_all_after round groups body) count) group s))) [
         | None ↦ refl
         | Some group ↦ same_turns _ _ (λ fields s. ap (λ o. cond (length fields == count) (option_map (slot_leave s) o) None) (row_of_list body (with_slots (s.slots ++ fields) s))) group s
       ]
@@ -112,7 +112,3 @@ found_behind name before (pair ∷ pairs) =
 pub same_length : {A : Type 0} (pairs : Named A) → length (names pairs) ≡ length (things pairs)
 same_length [] = refl
 same_length (pair ∷ pairs) = ap suc (same_length pairs)
-
-pub length_map : {A B : Type 0} (f : A → B) (xs : List A) → length (map f xs) ≡ length xs
-length_map f [] = refl
-length_map f (x ∷ xs) = ap suc (length_map f xs)

@@ -1,13 +1,2 @@
-pub mod Expressions
-pub mod Flags
-pub mod Functions
-pub mod KeyLaws
-pub mod Machine
-pub mod MeaningLaws
-pub mod Meanings
-pub mod Optional
-pub mod Right
-pub mod RoundLaws
-pub mod Slots
-pub mod Slotting
-pub mod Statements
+pub mod Evaluated
+pub mod steps

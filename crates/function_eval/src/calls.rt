@@ -1,15 +1,16 @@
 ghost use Rattle.std.specs.Prelude.{◌≡◌, ◌≤◌, ◌∷◌, ◌++◌, [], IfOk, OnErr, OnOk, option_map};
-ghost use Rattle.operations.specs.Applied.{at_least_zero};
-ghost use Rattle.function_eval.specs.Machine.{Ended, groups_of};
-ghost use Rattle.function_eval.specs.Optional.{or_none, or_zero};
-ghost use Rattle.function_eval.specs.Slots.{given_of, out_of, slot_all_after, slot_distance, slot_map, slot_partition, slot_ran, slot_reduce};
+ghost use Rattle.hal_base.specs.Values.{key_pieces};
+ghost use Rattle.function_eval.specs.steps.Machine.{Ended, groups_of};
+ghost use Rattle.function_meaning.specs.Optional.{or_none, or_zero};
+ghost use Rattle.function_eval.specs.steps.Slots.{given_of, out_of, slot_all_after, slot_distance, slot_map, slot_partition, slot_ran, slot_reduce};
 ghost use Rattle.function_eval.specs.declared.machine.Stop.TheVariants as a_stop;
-ghost use Rattle.predefined_functions.specs.Grown.{Grown};
+ghost use Rattle.predefined_functions.specs.steps.Extended.{Extends};
 
 use crate::machine::{Stop, run_all};
+use crate::resolved::{ResolvedFunction, ResolvedStatement};
 use crate::running::{Frame, Running, Slots, Streams};
-use crate::slotted::{SlotFunction, SlotStatement};
-use hal_base::{CopyIn, Group, Groups, Memory, Record, Records, Value, default_part};
+use function_meaning::{distance_given, part_given};
+use hal_base::{CopyIn, Group, Groups, Memory, Record, Records, Value};
 use std::alloc::Global;
 use std::mem;
 
@@ -17,7 +18,7 @@ use std::mem;
 /// is as before.
 pub(crate) fn run_map(
     alloc: Global,
-    function: &SlotFunction,
+    function: &ResolvedFunction,
     round: u32,
     row: &Record,
     out: &mut Records,
@@ -25,7 +26,7 @@ pub(crate) fn run_map(
     ensures appended { OnOk result (out.new ≡ out.old ++ or_none (slot_map round function.now row.now)) }
     ensures unchanged { OnErr result (out.new ≡ out.old) }
 {
-    let SlotFunction::Map { params, body } = function else {
+    let ResolvedFunction::Map { params, body } = function else {
         return Ok(());
     };
     if row.fields.len() + 1 != *params {
@@ -45,7 +46,7 @@ pub(crate) fn run_map(
 /// After `Memory` `out` is as before.
 pub(crate) fn run_reduce(
     alloc: Global,
-    function: &SlotFunction,
+    function: &ResolvedFunction,
     round: u32,
     key: &Value,
     groups: &Groups,
@@ -54,7 +55,7 @@ pub(crate) fn run_reduce(
     ensures appended { OnOk result (out.new ≡ out.old ++ or_none (slot_reduce round function.now key.now groups.now)) }
     ensures unchanged { OnErr result (out.new ≡ out.old) }
 {
-    let SlotFunction::Reduce { streams, body } = function else {
+    let ResolvedFunction::Reduce { streams, body } = function else {
         return Ok(());
     };
     if groups.len() != *streams {
@@ -72,14 +73,14 @@ pub(crate) fn run_reduce(
 /// The distance of two groups of a key; 0 where the function is no distance, or stops.
 pub(crate) fn run_distance(
     alloc: Global,
-    function: &SlotFunction,
+    function: &ResolvedFunction,
     key: &Value,
     old: &Group,
     new: &Group,
 ) -> Result<u64, Memory>
     ensures { IfOk result (λ distance. distance ≡ or_zero (slot_distance function.now key.now old.now new.now)) }
 {
-    let SlotFunction::Distance { body } = function else {
+    let ResolvedFunction::Distance { body } = function else {
         return Ok(0);
     };
     let slots = key_slots(alloc, key)?;
@@ -90,7 +91,7 @@ pub(crate) fn run_distance(
     };
     let given = given_by(&frame, body.as_slice(), slots)?;
     Ok(match given {
-        Some(number) => distance_of(number),
+        Some(number) => distance_given(number),
         None => 0,
     })
 }
@@ -98,7 +99,7 @@ pub(crate) fn run_distance(
 /// The part of a key, of so many; 0 where the function is no partition, or stops.
 pub(crate) fn run_partition(
     alloc: Global,
-    function: &SlotFunction,
+    function: &ResolvedFunction,
     round: u32,
     parts: u32,
     key: &Value,
@@ -106,7 +107,7 @@ pub(crate) fn run_partition(
     requires { 1 ≤ parts }
     ensures { IfOk result (λ part. part ≡ or_zero (slot_partition parts round function.now key.now)) }
 {
-    let SlotFunction::Partition { body } = function else {
+    let ResolvedFunction::Partition { body } = function else {
         return Ok(0);
     };
     let slots = key_slots(alloc, key)?;
@@ -117,21 +118,14 @@ pub(crate) fn run_partition(
     };
     let given = given_by(&frame, body.as_slice(), slots)?;
     Ok(match given {
-        Some(number) => default_part(&Value::Int(number), parts),
+        Some(number) => part_given(number, parts),
         None => 0,
     })
 }
 
-/// A number as a distance, where a negative one counts as 0.
-fn distance_of(number: i64) -> u64
-    ensures { result ≡ at_least_zero number }
-{
-    if number < 0 { 0 } else { number as u64 }
-}
-
 /// A copy of the key, in the first slot.
 fn key_slots(alloc: Global, key: &Value) -> Result<Slots, Memory>
-    ensures { IfOk result (λ slots. slots ≡ key.now ∷ []) }
+    ensures { IfOk result (λ slots. slots ≡ key_pieces key.now) }
 {
     let mut slots = Slots::new(alloc);
     slots.push(key.copy(alloc)?)?;
@@ -139,7 +133,7 @@ fn key_slots(alloc: Global, key: &Value) -> Result<Slots, Memory>
 }
 
 /// The number that a body gives last, unless it stops.
-fn given_by(frame: &Frame, body: &[SlotStatement], slots: Slots) -> Result<Option<i64>, Memory>
+fn given_by(frame: &Frame, body: &[ResolvedStatement], slots: Slots) -> Result<Option<i64>, Memory>
     ensures { IfOk result (λ given. given ≡ option_map given_of (slot_ran frame.now.round (groups_of frame.now.streams) slots body.now)) }
 {
     let mut running = Running {
@@ -149,7 +143,7 @@ fn given_by(frame: &Frame, body: &[SlotStatement], slots: Slots) -> Result<Optio
     };
     match run_all(frame, body, &mut running) {
         Ok(()) => Ok(Some(running.given)),
-        Err(Stop::Nothing) => Ok(None),
+        Err(Stop::NoValue) => Ok(None),
         Err(Stop::Memory) => Err(Memory),
     }
 }
@@ -158,7 +152,7 @@ fn given_by(frame: &Frame, body: &[SlotStatement], slots: Slots) -> Result<Optio
 #[tactic(auto, using(crate::proofs::CallLaws::emitted_behind, crate::proofs::CallLaws::came_back))]
 fn emit_into(
     frame: &Frame,
-    body: &[SlotStatement],
+    body: &[ResolvedStatement],
     slots: Slots,
     out: &mut Records,
 ) -> Result<(), Memory>
@@ -177,7 +171,7 @@ fn emit_into(
         Ok(()) => Ok(()),
         Err(stop) => {
             out.truncate(before);
-            forget_nothing(stop)
+            only_memory(stop)
         }
     }
 }
@@ -185,22 +179,22 @@ fn emit_into(
 /// Runs a body, and answers how it ended and what it emitted behind what was there.
 fn run_to_end(
     frame: &Frame,
-    body: &[SlotStatement],
+    body: &[ResolvedStatement],
     mut running: Running,
 ) -> (Result<(), Stop>, Records)
     ensures ran { Ended (slot_all_after frame.now.round (groups_of frame.now.streams) body.now running) result.0 result.1 }
-    ensures kept { Grown running.out result.1 }
+    ensures kept { Extends running.out result.1 }
 {
     let ended = run_all(frame, body, &mut running);
     (ended, running.out)
 }
 
-/// A stop that a caller has to hear of.
-fn forget_nothing(stop: Stop) -> Result<(), Memory>
-    ensures { OnOk result (stop ≡ a_stop.Nothing) }
+/// Of the causes to stop, want of memory alone is an error.
+fn only_memory(stop: Stop) -> Result<(), Memory>
+    ensures { OnOk result (stop ≡ a_stop.NoValue) }
 {
     match stop {
-        Stop::Nothing => Ok(()),
+        Stop::NoValue => Ok(()),
         Stop::Memory => Err(Memory),
     }
 }

@@ -1,28 +1,26 @@
 ghost use Rattle.std.specs.Prelude.{◌≡◌, ◌≤◌, ◌++◌, IfOk, OnErr, OnOk, option_map, map, slice_get};
 ghost use Rattle.std.specs.Option.{option_copied};
 ghost use Rattle.type_checker.specs.declared.uses.Use.TheVariants as a_use;
-ghost use Rattle.function_eval.specs.Meanings as meanings;
-ghost use Rattle.function_eval.specs.Meanings.{distance_used, evaluated, map_used, partition_used, reduce_used, round_used, key_kept};
-ghost use Rattle.function_eval.specs.Optional as optional;
-ghost use Rattle.function_eval.specs.Optional.{or_none, or_zero};
-ghost use Rattle.function_eval.specs.Slots.{function_slotted};
+ghost use Rattle.function_eval.specs.Evaluated.{evaluated};
+ghost use Rattle.function_meaning.specs.Meanings.{distance_used, map_used, partition_used, reduce_used};
+ghost use Rattle.function_meaning.specs.Optional.{or_none, or_zero};
+ghost use Rattle.function_eval.specs.steps.Resolved.{function_resolved};
 
 use crate::calls::{run_distance, run_map, run_partition, run_reduce};
-use crate::flags::{function_uses_round, keeps_its_key};
-use crate::slotted::SlotFunction;
-use crate::slotting::slot_function;
+use crate::resolve::resolve_function;
+use crate::resolved::ResolvedFunction;
 use hal_base::{Functions, Group, Groups, Items, Memory, Record, Records, Value, default_part};
 use predefined_functions::{differ, every, hop, least, same};
 use std::alloc::Global;
 use std::marker::Model;
-use type_checker::{Typed, Use, UseStep, Uses};
+use type_checker::{Typed, Use, Uses};
 
 /// The functions of a program, ready to run: each name has become a slot. docs/LANGUAGE.md, "What functions
 /// mean".
 #[derive(Drop)]
 pub struct Evaluator {
     typed: Typed,
-    functions: Items<SlotFunction>,
+    functions: Items<ResolvedFunction>,
     uses: Uses,
     parts: u32,
 }
@@ -32,8 +30,8 @@ impl Model for Evaluator {
     ghost use Rattle.std.specs.Coded.{codes};
     ghost use Rattle.function_language.specs.contracts.tree.Expr as expr;
     ghost use Rattle.function_language.specs.contracts.tree.Statement as statement;
-    ghost use Rattle.function_eval.specs.Meanings.{Evaluated, evaluated};
-    ghost use Rattle.function_eval.specs.Slots.{function_slotted};
+    ghost use Rattle.function_eval.specs.Evaluated.{Evaluated, evaluated};
+    ghost use Rattle.function_eval.specs.steps.Resolved.{function_resolved};
 
     ghost Value = { Evaluated };
 
@@ -41,7 +39,7 @@ impl Model for Evaluator {
 
     ghost view = { λ e. evaluated e.typed e.uses e.parts };
 
-    ghost invariant = { λ e. (e.functions ≡ map function_slotted e.typed) × (1 ≤ e.parts) };
+    ghost invariant = { λ e. (e.functions ≡ map function_resolved e.typed) × (1 ≤ e.parts) };
 }
 
 impl Evaluator {
@@ -50,7 +48,7 @@ impl Evaluator {
         requires { 1 ≤ parts }
         ensures { IfOk result (λ made. made ≡ evaluated typed uses parts) }
     {
-        let functions = slot_functions(alloc, &typed)?;
+        let functions = resolve_functions(alloc, &typed)?;
         Ok(Evaluator {
             typed,
             functions,
@@ -61,51 +59,17 @@ impl Evaluator {
 }
 
 /// Each function with slots in place of names.
-fn slot_functions(alloc: Global, typed: &Typed) -> Result<Items<SlotFunction>, Memory>
-    ensures { IfOk result (λ made. made ≡ map function_slotted typed.now) }
+fn resolve_functions(alloc: Global, typed: &Typed) -> Result<Items<ResolvedFunction>, Memory>
+    ensures { IfOk result (λ made. made ≡ map function_resolved typed.now) }
 {
     let mut made = Items::new(alloc);
     'functions: for function in typed.tree().as_slice() {
-        made.push(slot_function(alloc, function)?)?;
+        made.push(resolve_function(alloc, function)?)?;
     }
     Ok(made)
 }
 
 impl Evaluator {
-    /// The places of a step; steps count from 1.
-    fn step(&self, step: u32) -> Option<&UseStep>
-        ensures { option_copied result ≡ optional.nth self.now.uses.steps step }
-    {
-        match step.checked_sub(1) {
-            Some(at) => self.uses.steps.get(at as usize),
-            None => None,
-        }
-    }
-
-    /// The map of a source of a step; sources count from 1.
-    fn map_of(&self, step: u32, source: u32) -> Option<Use>
-        ensures { result ≡ meanings.map_at self.now.uses step source }
-    {
-        let step = self.step(step)?;
-        use_at(step.maps.as_slice(), source)
-    }
-
-    /// The reduce of a step.
-    fn reduce_of(&self, step: u32) -> Option<Use>
-        ensures { result ≡ meanings.reduce_at self.now.uses step }
-    {
-        let step = self.step(step)?;
-        Some(step.reduce)
-    }
-
-    /// The partition of a step.
-    fn partition_of(&self, step: u32) -> Option<Use>
-        ensures { result ≡ meanings.partition_at self.now.uses step }
-    {
-        let step = self.step(step)?;
-        Some(step.partition)
-    }
-
     /// Into how many parts records are dealt.
     fn parts(&self) -> u32
         ensures value { result ≡ self.now.parts }
@@ -115,53 +79,16 @@ impl Evaluator {
     }
 
     /// The function of this number, with slots.
-    fn slotted(&self, number: u32) -> Option<&SlotFunction>
-        ensures { option_copied result ≡ option_map function_slotted (slice_get self.now.functions number) }
+    fn resolved(&self, number: u32) -> Option<&ResolvedFunction>
+        ensures { option_copied result ≡ option_map function_resolved (slice_get self.now.functions number) }
     {
         self.functions.get(number as usize)
-    }
-
-    /// Whether `round` stands in the function that is used.
-    fn uses_round(&self, used: Option<Use>) -> bool
-        ensures { result ≡ round_used self.now.functions used }
-    {
-        match used {
-            Some(Use::Function(number)) => match self.typed.tree().get(number as usize) {
-                Some(function) => function_uses_round(function),
-                None => false,
-            },
-            _ => false,
-        }
-    }
-
-    /// Whether the reduce that is used emits at its key alone.
-    fn keeps(&self, used: Option<Use>) -> bool
-        ensures { result ≡ key_kept self.now.functions used }
-    {
-        match used {
-            Some(Use::Least | Use::Every) => true,
-            Some(Use::Function(number)) => match self.typed.tree().get(number as usize) {
-                Some(function) => keeps_its_key(function),
-                None => false,
-            },
-            _ => false,
-        }
-    }
-}
-
-/// The use of a source; sources count from 1.
-fn use_at(uses: &[Use], source: u32) -> Option<Use>
-    ensures { result ≡ optional.nth uses.now source }
-{
-    match source.checked_sub(1) {
-        Some(at) => uses.get(at as usize).copied(),
-        None => None,
     }
 }
 
 impl Functions for Evaluator {
-    ghost use Rattle.function_eval.specs.Meanings.{meaning_of};
-    ghost use Rattle.function_eval.specs.MeaningLaws.{key_law, round_law, value_law};
+    ghost use Rattle.function_meaning.specs.Meanings.{meaning_of};
+    ghost use Rattle.function_meaning.specs.steps.MeaningLaws.{key_law, round_law, value_law};
 
     ghost meaning = { λ e. meaning_of e.functions e.uses e.parts };
 
@@ -174,7 +101,7 @@ impl Functions for Evaluator {
         row: &Record,
         out: &mut Records,
     ) -> Result<(), Memory> {
-        match self.map_of(step, source) {
+        match self.uses.map_at(step, source) {
             Some(Use::Same) => same(alloc, row, out),
             Some(Use::Function(number)) => self.map_by(alloc, number, round, row, out),
             _ => Ok(()),
@@ -190,7 +117,7 @@ impl Functions for Evaluator {
         groups: &Groups,
         out: &mut Records,
     ) -> Result<(), Memory> {
-        match self.reduce_of(step) {
+        match self.uses.reduce_at(step) {
             Some(Use::Least) => least(alloc, key, groups, out),
             Some(Use::Every) => every(alloc, key, groups, out),
             Some(Use::Hop) => hop(alloc, key, groups, out),
@@ -200,7 +127,7 @@ impl Functions for Evaluator {
     }
 
     fn partition(&self, alloc: Global, round: u32, step: u32, key: &Value) -> Result<u32, Memory> {
-        match self.partition_of(step) {
+        match self.uses.partition_at(step) {
             Some(Use::Default) => Ok(default_part(key, self.parts())),
             Some(Use::Function(number)) => self.partition_by(alloc, number, round, key),
             _ => Ok(0),
@@ -222,19 +149,19 @@ impl Functions for Evaluator {
     }
 
     fn map_uses_round(&self, step: u32, source: u32) -> bool {
-        self.uses_round(self.map_of(step, source))
+        self.typed.round_used(self.uses.map_at(step, source))
     }
 
     fn map_is_same(&self, step: u32, source: u32) -> bool {
-        matches!(self.map_of(step, source), Some(Use::Same))
+        matches!(self.uses.map_at(step, source), Some(Use::Same))
     }
 
     fn partition_uses_round(&self, step: u32) -> bool {
-        self.uses_round(self.partition_of(step))
+        self.typed.round_used(self.uses.partition_at(step))
     }
 
     fn keeps_key(&self, step: u32) -> bool {
-        self.keeps(self.reduce_of(step))
+        self.typed.key_kept(self.uses.reduce_at(step))
     }
 
     ghost round_law = { λ e. round_law e.functions e.uses e.parts };
@@ -257,7 +184,7 @@ impl Evaluator {
         ensures appended { OnOk result (out.new ≡ out.old ++ or_none (map_used self.now.functions round row.now (a_use.Function number))) }
         ensures unchanged { OnErr result (out.new ≡ out.old) }
     {
-        match self.slotted(number) {
+        match self.resolved(number) {
             Some(function) => run_map(alloc, function, round, row, out),
             None => Ok(()),
         }
@@ -276,7 +203,7 @@ impl Evaluator {
         ensures appended { OnOk result (out.new ≡ out.old ++ or_none (reduce_used self.now.functions round key.now groups.now (a_use.Function number))) }
         ensures unchanged { OnErr result (out.new ≡ out.old) }
     {
-        match self.slotted(number) {
+        match self.resolved(number) {
             Some(function) => run_reduce(alloc, function, round, key, groups, out),
             None => Ok(()),
         }
@@ -292,7 +219,7 @@ impl Evaluator {
     ) -> Result<u32, Memory>
         ensures { IfOk result (λ part. part ≡ or_zero (partition_used self.now.functions self.now.parts round key.now (a_use.Function number))) }
     {
-        match self.slotted(number) {
+        match self.resolved(number) {
             Some(function) => run_partition(alloc, function, round, self.parts(), key),
             None => Ok(0),
         }
@@ -309,7 +236,7 @@ impl Evaluator {
     ) -> Result<u64, Memory>
         ensures { IfOk result (λ distance. distance ≡ or_zero (distance_used self.now.functions key.now old.now new.now (a_use.Function number))) }
     {
-        match self.slotted(number) {
+        match self.resolved(number) {
             Some(function) => run_distance(alloc, function, key, old, new),
             None => Ok(0),
         }

@@ -3,13 +3,10 @@
 
 mod calls;
 mod evaluator;
-mod flags;
-mod laws;
 mod machine;
 mod numbers;
+mod resolve;
+mod resolved;
 mod running;
-mod slotted;
-mod slotting;
 
 pub use evaluator::Evaluator;
-pub use laws::typed_functions_never_stop;

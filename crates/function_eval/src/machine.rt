@@ -1,16 +1,16 @@
 ghost use Rattle.std.specs.Prelude.{◌≡◌, ◌∷◌, [], ◌++◌, ◌≤◌, ◌<◌, length, map, cond, None, Some, option_map, slice_get};
 ghost use Rattle.std.specs.Option.{option_copied};
 ghost use Rattle.operations.specs.Applied as applied;
-ghost use Rattle.predefined_functions.specs.Grown.{Grown};
-ghost use Rattle.function_eval.specs.Expressions.{as_number, round_value};
-ghost use Rattle.function_eval.specs.Machine.{Gives, Ran, groups_of, slot_block, slot_call, slot_for, slot_record, slot_turns};
-ghost use Rattle.function_eval.specs.Optional.{all_of};
-ghost use Rattle.function_eval.specs.Slots.{slot_after, slot_all_after, slot_number, slot_turn, slot_value};
-ghost use Rattle.function_eval.specs.declared.slotted.SlotStatement.TheVariants as an_order;
+ghost use Rattle.predefined_functions.specs.steps.Extended.{Extends};
+ghost use Rattle.function_meaning.specs.Expressions.{as_number, round_value};
+ghost use Rattle.function_eval.specs.steps.Machine.{Gives, Ran, groups_of, slot_block, slot_call, slot_for, slot_record, slot_turns};
+ghost use Rattle.function_meaning.specs.Optional.{all_of};
+ghost use Rattle.function_eval.specs.steps.Slots.{slot_after, slot_all_after, slot_number, slot_turn, slot_value};
+ghost use Rattle.function_eval.specs.declared.resolved.ResolvedStatement.TheVariants as a_resolved_statement;
 
 use crate::numbers::plain_number;
+use crate::resolved::{ResolvedExpr, ResolvedStatement};
 use crate::running::{Frame, Running};
-use crate::slotted::{SlotExpr, SlotStatement};
 use hal_base::{CopyIn, Fields, Memory, Record, Value};
 use operations::{Operation, apply_to_one, apply_to_three, apply_to_two, is_true};
 
@@ -18,7 +18,7 @@ use operations::{Operation, apply_to_one, apply_to_three, apply_to_two, is_true}
 #[derive(Clone, Copy)]
 pub(crate) enum Stop {
     /// What is asked for has no value, as where one of another kind is wanted.
-    Nothing,
+    NoValue,
     Memory,
 }
 
@@ -34,7 +34,7 @@ impl From<Memory> for Stop {
 
 /// The value of an expression.
 #[cycle(value)]
-fn value(frame: &Frame, slots: &[Value], expr: &SlotExpr) -> Result<Value, Stop>
+fn value(frame: &Frame, slots: &[Value], expr: &ResolvedExpr) -> Result<Value, Stop>
     ensures { Gives (slot_value frame.now.round slots.now expr.now) result }
 {
     match plain_number(frame, slots, expr) {
@@ -46,19 +46,19 @@ fn value(frame: &Frame, slots: &[Value], expr: &SlotExpr) -> Result<Value, Stop>
 /// The value of an expression that may hold texts.
 #[cycle(value)]
 #[inline(never)]
-fn any_value(frame: &Frame, slots: &[Value], expr: &SlotExpr) -> Result<Value, Stop>
+fn any_value(frame: &Frame, slots: &[Value], expr: &ResolvedExpr) -> Result<Value, Stop>
     ensures { Gives (slot_value frame.now.round slots.now expr.now) result }
 {
     match expr {
-        SlotExpr::Int(n) => Ok(Value::Int(*n)),
-        SlotExpr::Text(text) => {
+        ResolvedExpr::Int(n) => Ok(Value::Int(*n)),
+        ResolvedExpr::Text(text) => {
             let copied = text.copy(frame.alloc)?;
             Ok(Value::Text(copied))
         }
-        SlotExpr::Round => round(frame),
-        SlotExpr::Slot(at) => slot(frame, slots, *at),
-        SlotExpr::Call(operation, args) => call(frame, slots, *operation, args.as_slice()),
-        SlotExpr::Nothing => Err(Stop::Nothing),
+        ResolvedExpr::Round => round(frame),
+        ResolvedExpr::Slot(at) => slot(frame, slots, *at),
+        ResolvedExpr::Call(operation, args) => call(frame, slots, *operation, args.as_slice()),
+        ResolvedExpr::Unresolved => Err(Stop::NoValue),
     }
 }
 
@@ -68,7 +68,7 @@ fn round(frame: &Frame) -> Result<Value, Stop>
 {
     match frame.round {
         Some(round) => Ok(Value::Int(i64::from(round))),
-        None => Err(Stop::Nothing),
+        None => Err(Stop::NoValue),
     }
 }
 
@@ -78,7 +78,7 @@ fn slot(frame: &Frame, slots: &[Value], at: usize) -> Result<Value, Stop>
 {
     match slot_at(slots, at) {
         Some(value) => Ok(value.copy(frame.alloc)?),
-        None => Err(Stop::Nothing),
+        None => Err(Stop::NoValue),
     }
 }
 
@@ -95,12 +95,12 @@ fn call(
     frame: &Frame,
     slots: &[Value],
     operation: Operation,
-    args: &[SlotExpr],
+    args: &[ResolvedExpr],
 ) -> Result<Value, Stop>
     ensures { Gives (slot_call frame.now.round slots.now operation args.now) result }
 {
     match args {
-        [] => Err(Stop::Nothing),
+        [] => Err(Stop::NoValue),
         [a] => {
             let a = value(frame, slots, a)?;
             found(apply_to_one(frame.alloc, operation, a)?)
@@ -116,7 +116,7 @@ fn call(
             let c = value(frame, slots, c)?;
             found(apply_to_three(frame.alloc, operation, a, b, c)?)
         }
-        [_, _, _, _, ..] => Err(Stop::Nothing),
+        [_, _, _, _, ..] => Err(Stop::NoValue),
     }
 }
 
@@ -124,11 +124,11 @@ fn call(
 fn found(value: Option<Value>) -> Result<Value, Stop>
     ensures { Gives value result }
 {
-    value.ok_or(Stop::Nothing)
+    value.ok_or(Stop::NoValue)
 }
 
 /// The value of an expression that is a number.
-fn number(frame: &Frame, slots: &[Value], expr: &SlotExpr) -> Result<i64, Stop>
+fn number(frame: &Frame, slots: &[Value], expr: &ResolvedExpr) -> Result<i64, Stop>
     ensures { Gives (slot_number frame.now.round slots.now expr.now) result }
 {
     match plain_number(frame, slots, expr) {
@@ -139,17 +139,17 @@ fn number(frame: &Frame, slots: &[Value], expr: &SlotExpr) -> Result<i64, Stop>
 
 /// The value of an expression that may hold texts and is a number.
 #[inline(never)]
-fn any_number(frame: &Frame, slots: &[Value], expr: &SlotExpr) -> Result<i64, Stop>
+fn any_number(frame: &Frame, slots: &[Value], expr: &ResolvedExpr) -> Result<i64, Stop>
     ensures { Gives (slot_number frame.now.round slots.now expr.now) result }
 {
     match any_value(frame, slots, expr)? {
         Value::Int(n) => Ok(n),
-        Value::Text(_) => Err(Stop::Nothing),
+        Value::Text(_) => Err(Stop::NoValue),
     }
 }
 
 /// Whether the value of an expression is a number that counts as true.
-fn holds(frame: &Frame, slots: &[Value], test: &SlotExpr) -> Result<bool, Stop>
+fn holds(frame: &Frame, slots: &[Value], test: &ResolvedExpr) -> Result<bool, Stop>
     ensures { Gives (option_map applied.is_true (slot_number frame.now.round slots.now test.now)) result }
 {
     let n = number(frame, slots, test)?;
@@ -157,14 +157,14 @@ fn holds(frame: &Frame, slots: &[Value], test: &SlotExpr) -> Result<bool, Stop>
 }
 
 /// The record of the values of some expressions, of which the first is the key.
-fn record(frame: &Frame, slots: &[Value], args: &[SlotExpr]) -> Result<Record, Stop>
+fn record(frame: &Frame, slots: &[Value], args: &[ResolvedExpr]) -> Result<Record, Stop>
     ensures { Gives (slot_record frame.now.round slots.now args.now) result }
 {
     let [key, others @ ..] = args else {
-        return Err(Stop::Nothing);
+        return Err(Stop::NoValue);
     };
     if others.len() > 7 {
-        return Err(Stop::Nothing);
+        return Err(Stop::NoValue);
     }
     let key = value(frame, slots, key)?;
     let fields = fields(frame, slots, others)?;
@@ -172,7 +172,7 @@ fn record(frame: &Frame, slots: &[Value], args: &[SlotExpr]) -> Result<Record, S
 }
 
 /// The values of expressions as fields.
-fn fields(frame: &Frame, slots: &[Value], args: &[SlotExpr]) -> Result<Fields, Stop>
+fn fields(frame: &Frame, slots: &[Value], args: &[ResolvedExpr]) -> Result<Fields, Stop>
     requires { length args.now ≤ 7 }
     ensures { Gives (all_of (map (slot_value frame.now.round slots.now) args.now)) result }
 {
@@ -187,7 +187,7 @@ fn fields(frame: &Frame, slots: &[Value], args: &[SlotExpr]) -> Result<Fields, S
 fn push_value(
     frame: &Frame,
     slots: &[Value],
-    arg: &SlotExpr,
+    arg: &ResolvedExpr,
     fields: &mut Fields,
 ) -> Result<(), Stop>
     requires { length fields.old < 7 }
@@ -202,11 +202,11 @@ fn push_value(
 #[inline(always)]
 pub(crate) fn run_all(
     frame: &Frame,
-    statements: &[SlotStatement],
+    statements: &[ResolvedStatement],
     running: &mut Running,
 ) -> Result<(), Stop>
     ensures ran { Ran (slot_all_after frame.now.round (groups_of frame.now.streams) statements.now running.old) result running.new }
-    ensures kept { Grown running.old.out running.new.out }
+    ensures kept { Extends running.old.out running.new.out }
 {
     'statements: for statement in statements {
         run(frame, statement, running)?;
@@ -217,48 +217,53 @@ pub(crate) fn run_all(
 /// Runs a statement.
 #[cycle(run)]
 #[inline(always)]
-fn run(frame: &Frame, statement: &SlotStatement, running: &mut Running) -> Result<(), Stop>
+fn run(frame: &Frame, statement: &ResolvedStatement, running: &mut Running) -> Result<(), Stop>
     ensures ran { Ran (slot_after frame.now.round (groups_of frame.now.streams) statement.now running.old) result running.new }
-    ensures kept { Grown running.old.out running.new.out }
+    ensures kept { Extends running.old.out running.new.out }
 {
     match statement {
-        SlotStatement::Let(expr) => run_let(frame, expr, running),
-        SlotStatement::Set(place, expr) => run_set(frame, *place, expr, running),
-        SlotStatement::If { test, yes, no } => {
+        ResolvedStatement::Let(expr) => run_let(frame, expr, running),
+        ResolvedStatement::Set(place, expr) => run_set(frame, *place, expr, running),
+        ResolvedStatement::If { test, yes, no } => {
             if holds(frame, running.slots.as_slice(), test)? {
                 run_block(frame, yes.as_slice(), running)
             } else {
                 run_block(frame, no.as_slice(), running)
             }
         }
-        SlotStatement::For {
+        ResolvedStatement::For {
             stream,
             fields,
             body,
         } => run_for(frame, *stream, *fields, body.as_slice(), running),
-        SlotStatement::Emit(args) => run_emit(frame, args.as_slice(), running),
-        SlotStatement::Give(expr) => run_give(frame, expr, running),
-        SlotStatement::Nothing => Err(Stop::Nothing),
+        ResolvedStatement::Emit(args) => run_emit(frame, args.as_slice(), running),
+        ResolvedStatement::Give(expr) => run_give(frame, expr, running),
+        ResolvedStatement::Unresolved => Err(Stop::NoValue),
     }
 }
 
 /// A new variable.
-fn run_let(frame: &Frame, expr: &SlotExpr, running: &mut Running) -> Result<(), Stop>
-    ensures ran { Ran (slot_after frame.now.round (groups_of frame.now.streams) (an_order.Let expr.now) running.old) result running.new }
-    ensures kept { Grown running.old.out running.new.out }
+fn run_let(frame: &Frame, expr: &ResolvedExpr, running: &mut Running) -> Result<(), Stop>
+    ensures ran { Ran (slot_after frame.now.round (groups_of frame.now.streams) (a_resolved_statement.Let expr.now) running.old) result running.new }
+    ensures kept { Extends running.old.out running.new.out }
 {
     let value = value(frame, running.slots.as_slice(), expr)?;
     Ok(running.slots.push(value)?)
 }
 
 /// Another value of a variable.
-fn run_set(frame: &Frame, place: usize, expr: &SlotExpr, running: &mut Running) -> Result<(), Stop>
-    ensures ran { Ran (slot_after frame.now.round (groups_of frame.now.streams) (an_order.Set place expr.now) running.old) result running.new }
-    ensures kept { Grown running.old.out running.new.out }
+fn run_set(
+    frame: &Frame,
+    place: usize,
+    expr: &ResolvedExpr,
+    running: &mut Running,
+) -> Result<(), Stop>
+    ensures ran { Ran (slot_after frame.now.round (groups_of frame.now.streams) (a_resolved_statement.Set place expr.now) running.old) result running.new }
+    ensures kept { Extends running.old.out running.new.out }
 {
     let value = value(frame, running.slots.as_slice(), expr)?;
     if place >= running.slots.len() {
-        return Err(Stop::Nothing);
+        return Err(Stop::NoValue);
     }
     running.slots.set(place, value);
     Ok(())
@@ -267,9 +272,9 @@ fn run_set(frame: &Frame, place: usize, expr: &SlotExpr, running: &mut Running) 
 /// A block, whose variables are gone behind it.
 #[cycle(run)]
 #[inline(never)]
-fn run_block(frame: &Frame, body: &[SlotStatement], running: &mut Running) -> Result<(), Stop>
+fn run_block(frame: &Frame, body: &[ResolvedStatement], running: &mut Running) -> Result<(), Stop>
     ensures ran { Ran (slot_block frame.now.round (groups_of frame.now.streams) body.now running.old) result running.new }
-    ensures kept { Grown running.old.out running.new.out }
+    ensures kept { Extends running.old.out running.new.out }
 {
     let len = running.slots.len();
     run_all(frame, body, running)?;
@@ -284,15 +289,15 @@ fn run_for(
     frame: &Frame,
     stream: usize,
     fields: usize,
-    body: &[SlotStatement],
+    body: &[ResolvedStatement],
     running: &mut Running,
 ) -> Result<(), Stop>
     ensures ran { Ran (slot_for frame.now.round (groups_of frame.now.streams) stream fields body.now running.old) result running.new }
-    ensures kept { Grown running.old.out running.new.out }
+    ensures kept { Extends running.old.out running.new.out }
 {
     match frame.streams.get(stream) {
         Some(group) => run_turns(frame, fields, group.as_slice(), body, running),
-        None => Err(Stop::Nothing),
+        None => Err(Stop::NoValue),
     }
 }
 
@@ -302,11 +307,11 @@ fn run_turns(
     frame: &Frame,
     count: usize,
     group: &[Fields],
-    body: &[SlotStatement],
+    body: &[ResolvedStatement],
     running: &mut Running,
 ) -> Result<(), Stop>
     ensures ran { Ran (slot_turns frame.now.round (groups_of frame.now.streams) body.now count group.now running.old) result running.new }
-    ensures kept { Grown running.old.out running.new.out }
+    ensures kept { Extends running.old.out running.new.out }
 {
     'turns: for fields in group {
         run_turn(frame, count, fields.as_slice(), body, running)?;
@@ -320,14 +325,14 @@ fn run_turn(
     frame: &Frame,
     count: usize,
     fields: &[Value],
-    body: &[SlotStatement],
+    body: &[ResolvedStatement],
     running: &mut Running,
 ) -> Result<(), Stop>
     ensures ran { Ran (slot_turn (slot_all_after frame.now.round (groups_of frame.now.streams) body.now) count fields.now running.old) result running.new }
-    ensures kept { Grown running.old.out running.new.out }
+    ensures kept { Extends running.old.out running.new.out }
 {
     if fields.len() != count {
-        return Err(Stop::Nothing);
+        return Err(Stop::NoValue);
     }
     let len = running.slots.len();
     running.slots.push_copies(frame.alloc, fields)?;
@@ -337,18 +342,18 @@ fn run_turn(
 }
 
 /// A record more.
-fn run_emit(frame: &Frame, args: &[SlotExpr], running: &mut Running) -> Result<(), Stop>
-    ensures ran { Ran (slot_after frame.now.round (groups_of frame.now.streams) (an_order.Emit args.now) running.old) result running.new }
-    ensures kept { Grown running.old.out running.new.out }
+fn run_emit(frame: &Frame, args: &[ResolvedExpr], running: &mut Running) -> Result<(), Stop>
+    ensures ran { Ran (slot_after frame.now.round (groups_of frame.now.streams) (a_resolved_statement.Emit args.now) running.old) result running.new }
+    ensures kept { Extends running.old.out running.new.out }
 {
     let row = record(frame, running.slots.as_slice(), args)?;
     Ok(running.out.push(row)?)
 }
 
 /// Another number given.
-fn run_give(frame: &Frame, expr: &SlotExpr, running: &mut Running) -> Result<(), Stop>
-    ensures ran { Ran (slot_after frame.now.round (groups_of frame.now.streams) (an_order.Give expr.now) running.old) result running.new }
-    ensures kept { Grown running.old.out running.new.out }
+fn run_give(frame: &Frame, expr: &ResolvedExpr, running: &mut Running) -> Result<(), Stop>
+    ensures ran { Ran (slot_after frame.now.round (groups_of frame.now.streams) (a_resolved_statement.Give expr.now) running.old) result running.new }
+    ensures kept { Extends running.old.out running.new.out }
 {
     running.given = number(frame, running.slots.as_slice(), expr)?;
     Ok(())

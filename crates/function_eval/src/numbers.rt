@@ -1,11 +1,11 @@
 ghost use Rattle.std.specs.Prelude.{◌≡◌, Some, IfSome, option_map, slice_get};
 ghost use Rattle.hal_base.specs.declared.value.Value.TheVariants as a_value;
-ghost use Rattle.function_eval.specs.Expressions.{round_value};
-ghost use Rattle.function_eval.specs.Machine.{slot_call};
-ghost use Rattle.function_eval.specs.Slots.{slot_value};
+ghost use Rattle.function_meaning.specs.Expressions.{round_value};
+ghost use Rattle.function_eval.specs.steps.Machine.{slot_call};
+ghost use Rattle.function_eval.specs.steps.Slots.{slot_value};
 
+use crate::resolved::ResolvedExpr;
 use crate::running::Frame;
-use crate::slotted::SlotExpr;
 use hal_base::Value;
 use operations::{Operation, number_of_two};
 
@@ -13,14 +13,19 @@ use operations::{Operation, number_of_two};
 /// Most expressions are so made, and of them no value is moved: numbers stay in registers.
 #[cycle(plain_number)]
 #[inline(always)]
-pub(crate) fn plain_number(frame: &Frame, slots: &[Value], expr: &SlotExpr) -> Option<i64>
+pub(crate) fn plain_number(frame: &Frame, slots: &[Value], expr: &ResolvedExpr) -> Option<i64>
     ensures { IfSome result (λ n. slot_value frame.now.round slots.now expr.now ≡ Some (a_value.Int n)) }
 {
     match expr {
-        SlotExpr::Int(n) => Some(*n),
-        SlotExpr::Slot(at) => number_in_slot(slots, *at),
-        SlotExpr::Round => round_number(frame.round),
-        SlotExpr::Call(operation, args) => plain_call(frame, slots, *operation, args.as_slice()),
+        ResolvedExpr::Int(n) => Some(*n),
+        ResolvedExpr::Slot(at) => number_in_slot(slots, *at),
+        ResolvedExpr::Round => round_number(frame.round),
+        ResolvedExpr::Call(operation, args) => plain_call(
+            frame,
+            slots,
+            *operation,
+            args.as_slice(),
+        ),
         _ => None,
     }
 }
@@ -32,7 +37,7 @@ fn plain_call(
     frame: &Frame,
     slots: &[Value],
     operation: Operation,
-    args: &[SlotExpr],
+    args: &[ResolvedExpr],
 ) -> Option<i64>
     ensures { IfSome result (λ n. slot_call frame.now.round slots.now operation args.now ≡ Some (a_value.Int n)) }
 {

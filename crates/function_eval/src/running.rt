@@ -1,6 +1,6 @@
 ghost use Rattle.std.specs.Prelude.{◌≡◌, [], ◌∷◌, ◌++◌, ◌<◌, length, set, slice_get, take, OnErr, OnOk};
 ghost use Rattle.std.specs.Option.{option_copied};
-ghost use Rattle.function_eval.specs.Machine.{groups_of};
+ghost use Rattle.function_eval.specs.steps.Machine.{groups_of};
 
 use hal_base::{CopyIn, Group, Memory, Records, Value};
 use std::alloc::Global;

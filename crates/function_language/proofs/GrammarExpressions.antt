@@ -2,29 +2,28 @@
 use Rattle.std.proofs.Common.{Bool, Err, List, None, Option, Some, [], ap, ap₂, codes, cond, false, inl, inr, is_some, map, pred, refl, subst, suc, sym, true, zero, ℕ, ◌++◌, ◌∙◌, ◌∷◌, ◌≡◌}
 use Rattle.std.proofs.lemmas.Slice.Eq.{bytes_eq-Decides}
 use Rattle.std.specs.Str.{bytes_eq}
-use Rattle.program_tokens.specs.Front.{is_plain, sees}
+use Rattle.program_tokens.specs.steps.Front.{is_plain, sees}
 use Rattle.program_tokens.specs.Words.{is_name}
 use Rattle.program_tokens.specs.declared.token.Lexeme.{Lexeme}
 use Rattle.program_tokens.specs.declared.token.Lexeme.TheVariants as lexeme
 use Rattle.program_tokens.specs.declared.token.Token.{Token}
-use Rattle.function_language.specs.Parsers.{Parser, ident, peek, pure, taken, ◌>>=◌}
-use Rattle.function_language.specs.Pieces.{Fits, Piece, int, name, placed, plain, quoted}
-use Rattle.function_language.specs.Reading.{behind, call, call_of, expr, literal, literal_at, literal_in, named, or_read}
-use Rattle.function_language.specs.SpelledLists.{call_pieces}
-use Rattle.function_language.specs.Spelled as spelled
+use Rattle.program_tokens.specs.steps.Parsers.{Parser, ident, peek, pure, taken, ◌>>=◌}
+use Rattle.program_tokens.specs.Pieces.{Fits, Piece, int, name, placed, plain, quoted, comma_separated}
+use Rattle.function_language.specs.steps.Reading.{behind, call, call_of, expr, literal, literal_at, literal_in, named, or_read}
+use Rattle.function_language.specs.steps.SpelledLists.{call_pieces}
 use Rattle.function_language.specs.Spelled.{args_pieces, expr_pieces, opened}
 use Rattle.function_language.specs.declared.tree.Expr.{Call', Expr, Int, Name, Round, Row_of-Expr, Text, end_of-Expr, items-the_row-Expr, items_hidden-the_row-Expr-0, items_shown-the_row-Expr-0, more_of-Expr, out-Expr, roll-Expr, roll-out-Expr}
 use Rattle.function_language.specs.declared.tree.Expr.TheBlock.{hidden-the_row-Expr-0, shape-the_row-Expr-0}
 use Rattle.function_language.specs.declared.tree.Expr.TheVariants as an_expr
-use Rattle.function_language.specs.declared.tree.Ident.{Ident}
-use Rattle.function_language.proofs.Right.{Exactly, Right, RightAt, Spells, Stops, respelled, restopped}
-use Rattle.function_language.proofs.Sequences.{Follows, Then, then_at}
-use Rattle.function_language.proofs.Choices.{Either, Not, choose_at}
-use Rattle.function_language.proofs.Firsts.{Free, Heads, Stopping, Unfilled, begins_follows, free_follows, refuse_right}
-use Rattle.function_language.proofs.OneToken.{One, ident_right, one_right, some_same}
-use Rattle.function_language.proofs.Parts.{Made, last_part, made_begins, nothing_follows, pure_made, word_then}
-use Rattle.function_language.proofs.Avoiding.{Avoids, Unseen, int_avoids, name_avoids, peek_right, placed_avoids, plain_avoids, quoted_avoids, refused_unseen}
-use Rattle.function_language.proofs.Many.{closed_right}
+use Rattle.program_tokens.specs.declared.token.Ident.{Ident}
+use Rattle.program_tokens.proofs.Right.{Exactly, Right, RightAt, Spells, Stops, respelled, restopped}
+use Rattle.program_tokens.proofs.Sequences.{Follows, Then, then_at}
+use Rattle.program_tokens.proofs.Choices.{Either, Not, choose_at}
+use Rattle.program_tokens.proofs.Firsts.{Free, Heads, Stopping, Unfilled, begins_follows, free_follows, refuse_right}
+use Rattle.program_tokens.proofs.OneToken.{One, ident_right, one_right, some_same}
+use Rattle.program_tokens.proofs.Parts.{Made, last_part, made_begins, nothing_follows, pure_made, word_then}
+use Rattle.program_tokens.proofs.Avoiding.{Avoids, Unseen, int_avoids, name_avoids, peek_right, placed_avoids, plain_avoids, quoted_avoids, refused_unseen}
+use Rattle.program_tokens.proofs.Many.{closed_right}
 
 -- ---- rows and lists
 
@@ -40,7 +39,7 @@ args_of_row n depth (more_of-Expr arg args) = ap (◌∷◌ (expr_pieces depth a
 
 -- a call in a tree is spelled as the list of its arguments
 row_pieces_are : (depth : ℕ) (i : Ident) (shape : List (Unit {0})) (row : _) → expr_pieces depth (Call' i shape row) ≡ name i ∷ call_pieces depth (items-the_row-Expr _ row)
-row_pieces_are depth i shape row = ap (λ args. name i ∷ opened depth (codes "(") ∷ spelled.separated args ++ plain (codes ")") ∷ []) (args_of_row _ (pred depth) row)
+row_pieces_are depth i shape row = ap (λ args. name i ∷ opened depth (codes "(") ∷ comma_separated args ++ plain (codes ")") ∷ []) (args_of_row _ (pred depth) row)
 
 -- a call of these arguments is spelled as they are
 pub call_spelled : (depth : ℕ) (i : Ident) (args : List Expr) → expr_pieces depth (an_expr.Call i args) ≡ name i ∷ call_pieces depth args

@@ -2,27 +2,31 @@
 use Rattle.std.proofs.Common.{Bool, Err, List, [], ap, append_assoc, codes, false, inl, inr, map, refl, sym, true, ℕ, ◌++◌, ◌||◌, ◌∙◌, ◌∷◌, ◌≡◌}
 use Rattle.std.specs.Str.{bytes_eq}
 use Rattle.hal_base.specs.declared.value.Kind.{Kind}
-use Rattle.program_tokens.specs.Front.{is_plain, sees}
+use Rattle.program_tokens.specs.steps.Front.{is_plain, sees}
 use Rattle.program_tokens.specs.declared.token.Token.{Token}
-use Rattle.function_language.specs.Parsers.{expect, expect_line, pure, separated, ◌>>=◌, ◌>>◌}
-use Rattle.function_language.specs.Pieces.{Piece, end, name, placed, plain}
-use Rattle.function_language.specs.Reading.{begins_function, block, distance_function, function, functions, kinds, map_function, only_functions, param, partition_function, reduce_function, stream}
-use Rattle.function_language.specs.Spelled.{block_pieces, function_pieces, functions_pieces, in_parentheses, kinds_pieces, out_pieces, param_pieces, some_separated, stream_pieces}
+use Rattle.program_tokens.specs.steps.Parsers.{expect, expect_line, pure, separated, ◌>>=◌, ◌>>◌}
+use Rattle.program_tokens.specs.Pieces.{Piece, end, name, placed, plain}
+use Rattle.function_language.specs.steps.Reading.{begins_function, block, distance_function, function, functions, map_function, only_functions, param, partition_function, reduce_function, stream}
+use Rattle.program_tokens.specs.steps.Parsers.{kinds}
+use Rattle.function_language.specs.Spelled.{block_pieces, function_pieces, functions_pieces, out_pieces, param_pieces, stream_pieces}
+use Rattle.program_tokens.specs.Pieces.{kinds_pieces}
+use Rattle.program_tokens.specs.Pieces.{in_parentheses, some_comma_separated}
 use Rattle.function_language.specs.declared.tree.Function.{Function}
 use Rattle.function_language.specs.declared.tree.Function.TheVariants as a_function
-use Rattle.function_language.specs.declared.tree.Ident.{Ident}
+use Rattle.program_tokens.specs.declared.token.Ident.{Ident}
 use Rattle.function_language.specs.declared.tree.Param.{Param}
 use Rattle.function_language.specs.declared.tree.Row.{Row}
 use Rattle.function_language.specs.declared.tree.Statement.{Statement}
 use Rattle.function_language.specs.declared.tree.Stream.{Stream}
-use Rattle.function_language.proofs.Right.{Exactly, Right, Spells, respelled}
-use Rattle.function_language.proofs.Choices.{Either, Not}
-use Rattle.function_language.proofs.Firsts.{Begins, Free, Stopping, begins_follows, either_begins}
-use Rattle.function_language.proofs.OneToken.{end_right, expect_line_right, ident_right}
-use Rattle.function_language.proofs.Parts.{Made, exactly, free_part, last_part, made_begins, part, word_then}
-use Rattle.function_language.proofs.Avoiding.{Avoids, Unseen, eat_right, mark_follows, passed, plain_avoids, refused_unseen}
-use Rattle.function_language.proofs.Many.{separated_right, while_from_right}
-use Rattle.function_language.proofs.GrammarKinds.{kinds_right, param_right, stream_right}
+use Rattle.program_tokens.proofs.Right.{Exactly, Right, Spells, respelled}
+use Rattle.program_tokens.proofs.Choices.{Either, Not}
+use Rattle.program_tokens.proofs.Firsts.{Begins, Free, Stopping, begins_follows, either_begins}
+use Rattle.program_tokens.proofs.OneToken.{end_right, expect_line_right, ident_right}
+use Rattle.program_tokens.proofs.Parts.{Made, exactly, free_part, last_part, made_begins, part, word_then}
+use Rattle.program_tokens.proofs.Avoiding.{Avoids, Unseen, eat_right, mark_follows, passed, plain_avoids, refused_unseen}
+use Rattle.program_tokens.proofs.Many.{separated_right, while_from_right}
+use Rattle.function_language.proofs.GrammarSignatures.{param_right, stream_right}
+use Rattle.program_tokens.proofs.KindReaders.{kinds_right}
 use Rattle.function_language.proofs.GrammarStatements.{block_right}
 
 -- ---- the kinds of functions
@@ -36,11 +40,11 @@ stream_some : (s : Stream) → stream_pieces s ≡ [] → ⊥
 stream_some s e = cc
 
 -- parameters
-params_right : Right (Exactly (λ ps. some_separated (map param_pieces ps))) (Unseen (codes ",")) (separated param)
+params_right : Right (Exactly (λ ps. some_comma_separated (map param_pieces ps))) (Unseen (codes ",")) (separated param)
 params_right = separated_right param_pieces Free (Unseen (codes ",")) param (param_right Free) param_some (λ token tokens fits. tt) (λ rest stop. tt) (λ rest stop. stop)
 
 -- streams
-streams_right : Right (Exactly (λ ss. some_separated (map stream_pieces ss))) (Unseen (codes ",")) (separated stream)
+streams_right : Right (Exactly (λ ss. some_comma_separated (map stream_pieces ss))) (Unseen (codes ",")) (separated stream)
 streams_right = separated_right stream_pieces Free (Unseen (codes ",")) stream (stream_right Free) stream_some (λ token tokens fits. tt) (λ rest stop. tt) (λ rest stop. stop)
 
 -- the arrow, what is emitted, and the body
@@ -58,7 +62,7 @@ out_right made = free_part {make = λ (c : Out). made c.0 c.1.0 c.1.1} (expect_l
 -- a `map`
 abbrev Mapped : Spells Function
 Mapped = Made {C = Ident × (List Param × Out)} (λ c. a_function.Map c.0 c.1.0 c.1.1.0 (record { kinds = c.1.1.1.0 }) c.1.1.1.1)
-    (λ c. plain (codes "map") ∷ name c.0 ∷ plain (codes "(") ∷ (some_separated (map param_pieces c.1.0) ++ plain (codes ")") ∷ out_of c.1.1))
+    (λ c. plain (codes "map") ∷ name c.0 ∷ plain (codes "(") ∷ (some_comma_separated (map param_pieces c.1.0) ++ plain (codes ")") ∷ out_of c.1.1))
 
 -- a `map` is read right
 map_right : Right Mapped Free (expect (codes "map") >> map_function)
@@ -70,7 +74,7 @@ map_right = word_then (codes "map") (free_part (ident_right Free) (λ i. word_th
 -- a `reduce`
 abbrev Reduced : Spells Function
 Reduced = Made {C = Ident × (Param × (List Stream × Out))} (λ c. a_function.Reduce c.0 c.1.0 c.1.1.0 c.1.1.1.0 (record { kinds = c.1.1.1.1.0 }) c.1.1.1.1.1)
-    (λ c. plain (codes "reduce") ∷ name c.0 ∷ plain (codes "(") ∷ (param_pieces c.1.0 ++ plain (codes ";") ∷ (some_separated (map stream_pieces c.1.1.0) ++ plain (codes ")") ∷ out_of c.1.1.1)))
+    (λ c. plain (codes "reduce") ∷ name c.0 ∷ plain (codes "(") ∷ (param_pieces c.1.0 ++ plain (codes ";") ∷ (some_comma_separated (map stream_pieces c.1.1.0) ++ plain (codes ")") ∷ out_of c.1.1.1)))
 
 -- a `reduce` is read right
 reduce_right : Right Reduced Free (expect (codes "reduce") >> reduce_function)
@@ -141,14 +145,14 @@ closed_before inner others = ap (◌∷◌ (plain (codes "("))) (append_assoc in
 
 -- a `map`, one place after another
 map_spelled : (i : Ident) (ps : List Param) (arrow : ℕ) (out : Row) (body : List Statement) → function_pieces (a_function.Map i ps arrow out body)
-    ≡ plain (codes "map") ∷ name i ∷ plain (codes "(") ∷ (some_separated (map param_pieces ps) ++ plain (codes ")") ∷ out_pieces arrow out body)
-map_spelled i ps arrow out body = ap (λ pieces. plain (codes "map") ∷ name i ∷ pieces) (closed_before (some_separated (map param_pieces ps)) (out_pieces arrow out body))
+    ≡ plain (codes "map") ∷ name i ∷ plain (codes "(") ∷ (some_comma_separated (map param_pieces ps) ++ plain (codes ")") ∷ out_pieces arrow out body)
+map_spelled i ps arrow out body = ap (λ pieces. plain (codes "map") ∷ name i ∷ pieces) (closed_before (some_comma_separated (map param_pieces ps)) (out_pieces arrow out body))
 
 -- a `reduce`, one place after another
 reduce_spelled : (i : Ident) (key : Param) (ss : List Stream) (arrow : ℕ) (out : Row) (body : List Statement) → function_pieces (a_function.Reduce i key ss arrow out body)
-    ≡ plain (codes "reduce") ∷ name i ∷ plain (codes "(") ∷ (param_pieces key ++ plain (codes ";") ∷ (some_separated (map stream_pieces ss) ++ plain (codes ")") ∷ out_pieces arrow out body))
+    ≡ plain (codes "reduce") ∷ name i ∷ plain (codes "(") ∷ (param_pieces key ++ plain (codes ";") ∷ (some_comma_separated (map stream_pieces ss) ++ plain (codes ")") ∷ out_pieces arrow out body))
 reduce_spelled i key ss arrow out body =
-    let streams = some_separated (map stream_pieces ss) in
+    let streams = some_comma_separated (map stream_pieces ss) in
     let others = out_pieces arrow out body in
     ap (λ pieces. plain (codes "reduce") ∷ name i ∷ pieces) (
     closed_before (param_pieces key ++ plain (codes ";") ∷ streams) others

@@ -2,26 +2,26 @@
 use Rattle.std.proofs.Common.{Bool, Err, List, None, Ok, Option, Some, [], ap, append_assoc, ap₂, codes, cond, false, inl, inr, map, pred, refl, subst, suc, sym, true, zero, ℕ, ◌++◌, ◌∙◌, ◌∷◌, ◌≡◌}
 use Rattle.std.specs.List.{flat_map}
 use Rattle.std.specs.Str.{bytes_eq}
-use Rattle.program_tokens.specs.Front.{later, line_of, sees}
+use Rattle.program_tokens.specs.steps.Front.{later, line_of, sees}
 use Rattle.program_tokens.specs.declared.token.Token.{Token}
-use Rattle.function_language.specs.Parsers.{Outcome, Parser, and_then, eat, expect, expect_line, ident, pure, ◌>>=◌, ◌>>◌}
-use Rattle.function_language.specs.Pieces.{Piece, name, placed, plain}
-use Rattle.function_language.specs.Reading.{binding, block, emit_statement, expr, for_statement, give_statement, if_statement, result_statement, statement_of}
-use Rattle.function_language.specs.SpelledLists.{for_pieces, if_pieces, other_pieces}
-use Rattle.function_language.specs.Spelled as spelled
-use Rattle.function_language.specs.Spelled.{block_of, block_pieces, else_pieces, expr_pieces, idents_pieces, in_parentheses, row_pieces, statement_pieces}
+use Rattle.program_tokens.specs.steps.Parsers.{Outcome, Parser, and_then, eat, expect, expect_line, ident, pure, ◌>>=◌, ◌>>◌}
+use Rattle.program_tokens.specs.Pieces.{Piece, name, placed, plain, comma_separated}
+use Rattle.function_language.specs.steps.Reading.{binding, block, emit_statement, expr, for_statement, give_statement, if_statement, result_statement, statement_of}
+use Rattle.function_language.specs.steps.SpelledLists.{for_pieces, if_pieces, other_pieces}
+use Rattle.function_language.specs.Spelled.{block_of, block_pieces, else_pieces, expr_pieces, idents_pieces, row_pieces, statement_pieces}
+use Rattle.program_tokens.specs.Pieces.{in_parentheses}
 use Rattle.function_language.specs.declared.tree.Expr.{Expr}
-use Rattle.function_language.specs.declared.tree.Ident.{Ident}
+use Rattle.program_tokens.specs.declared.token.Ident.{Ident}
 use Rattle.function_language.specs.declared.tree.Statement.{Emit, For', Give, Held-Statement-If-2, If', Let, None', Row_of-Statement, Set, Some', Statement, end_of-Statement, items-the_row-Statement, items_hidden-the_row-Statement-0, items_shown-the_row-Statement-0, more_of-Statement, out-Statement, roll-Statement, roll-out-Statement}
 use Rattle.function_language.specs.declared.tree.Statement.TheBlock.{hidden-the_row-Statement-0, shape-the_row-Statement-0}
 use Rattle.function_language.specs.declared.tree.Statement.TheVariants as a_statement
-use Rattle.function_language.proofs.Right.{Exactly, Right, RightAt, Spells, Stops, respelled}
-use Rattle.function_language.proofs.Choices.{Either, choose_at}
-use Rattle.function_language.proofs.Firsts.{Begins, Free, Heads, Unfilled, begins_follows, either_begins, refuse_right}
-use Rattle.function_language.proofs.OneToken.{expect_line_right, ident_right}
-use Rattle.function_language.proofs.Parts.{Made, as_made, exactly, free_part, last_part, last_word, made_begins, nothing_follows, part, pure_made, word_then}
-use Rattle.function_language.proofs.Avoiding.{Avoids, Unseen, eat_right, mark_follows, name_avoids, placed_avoids, plain_avoids, refused_unseen_line}
-use Rattle.function_language.proofs.Many.{block_from_right, closed_right}
+use Rattle.program_tokens.proofs.Right.{Exactly, Right, RightAt, Spells, Stops, respelled}
+use Rattle.program_tokens.proofs.Choices.{Either, choose_at}
+use Rattle.program_tokens.proofs.Firsts.{Begins, Free, Heads, Unfilled, begins_follows, either_begins, refuse_right}
+use Rattle.program_tokens.proofs.OneToken.{expect_line_right, ident_right}
+use Rattle.program_tokens.proofs.Parts.{Made, as_made, exactly, free_part, last_part, last_word, made_begins, nothing_follows, part, pure_made, word_then}
+use Rattle.program_tokens.proofs.Avoiding.{Avoids, Unseen, eat_right, mark_follows, name_avoids, placed_avoids, plain_avoids, refused_unseen_line}
+use Rattle.program_tokens.proofs.Many.{block_from_right, closed_right}
 use Rattle.function_language.proofs.GrammarExpressions.{expr_first, expr_right}
 
 -- ---- rows and lists
@@ -65,7 +65,7 @@ if_row depth test shape row other =
 -- a `for` in a tree is spelled as its list
 for_row : (depth : ℕ) (idents : List Ident) (stream : Ident) (shape : List (Unit {0})) (row : _) → statement_pieces depth (For' idents stream shape row) ≡ for_pieces depth idents stream (items-the_row-Statement _ row)
 for_row depth idents stream shape row =
-    ap (λ statements. plain (codes "for") ∷ in_parentheses (spelled.separated (idents_pieces idents)) ++ plain (codes "in") ∷ name stream ∷ block_of depth statements) (statements_of_row _ (pred depth) row)
+    ap (λ statements. plain (codes "for") ∷ in_parentheses (comma_separated (idents_pieces idents)) ++ plain (codes "in") ∷ name stream ∷ block_of depth statements) (statements_of_row _ (pred depth) row)
 
 -- an `if` with these statements is spelled as they are
 pub if_spelled : (depth : ℕ) (test : Expr) (chosen : List Statement) (other : Option (List Statement)) → if_pieces depth test chosen other ≡ statement_pieces depth (a_statement.If test chosen other)
@@ -157,7 +157,7 @@ module _ (depth : ℕ) (value : Parser Expr) (block : Parser (List Statement)) (
 
   -- an `emit`
   abbrev Emitted : Spells Statement
-  Emitted = Made {C = ℕ × (List Expr × Unit {0})} (λ c. Emit c.0 c.1.0) (λ c. placed (codes "emit") c.0 ∷ in_parentheses (spelled.separated (map (expr_pieces depth) c.1.0)) ++ plain (codes ";") ∷ [])
+  Emitted = Made {C = ℕ × (List Expr × Unit {0})} (λ c. Emit c.0 c.1.0) (λ c. placed (codes "emit") c.0 ∷ in_parentheses (comma_separated (map (expr_pieces depth) c.1.0)) ++ plain (codes ";") ∷ [])
 
   -- an `emit` is read right
   emit_right : Right Emitted NoElse (expect_line (codes "emit") >>= emit_statement value)

@@ -4,9 +4,9 @@ use Rattle.std.proofs.lemmas.Bool.{and_right}
 use Rattle.program_tokens.specs.declared.token.Lexeme.{Lexeme}
 use Rattle.program_tokens.specs.Tokens.{begins_in_word, ends_in_word, escaped, spaced, spelling}
 use Rattle.program_tokens.specs.Words.{is_word_byte}
-use Rattle.function_language.specs.Pieces.{Piece}
-use Rattle.function_language.specs.Printing.{lexeme_of}
-use Rattle.function_language.specs.Printer.{Written, put, put_all, put_line}
+use Rattle.program_tokens.specs.Pieces.{Piece}
+use Rattle.program_tokens.specs.Pieces.{lexeme_of}
+use Rattle.function_language.specs.steps.Printer.{Written, put, put_all, put_line}
 
 -- the last byte says whether a word ends
 ends_behind : (front : List ℕ) (last : ℕ) → ends_in_word (front ++ last ∷ []) ≡ is_word_byte last

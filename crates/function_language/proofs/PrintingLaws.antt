@@ -1,18 +1,21 @@
--- The print of functions that a text has is a text of these functions.
+-- The print of functions that can be spelled is a text of these functions.
 use Rattle.std.proofs.Common.{◌≡◌, ℕ, ◌+◌, List, [], ◌∷◌, ◌++◌, map, refl, sym, ap, ◌∙◌, append_assoc, subst}
 use Rattle.std.specs.List.{AllByRecursion}
 use Rattle.program_tokens.specs.declared.token.Lexeme.{Lexeme}
 use Rattle.program_tokens.specs.declared.token.Token.{Token}
-use Rattle.program_tokens.specs.Tokens.{AreTokens, Follows, IsSpelled, in_lines}
+use Rattle.program_tokens.specs.Tokens.{IsSpelled, in_lines}
 use Rattle.program_tokens.proofs.Printing.{printed_is_read}
 use Rattle.function_language.specs.declared.tree.Function.{Function}
-use Rattle.function_language.specs.Pieces.{Fits, Piece, Stand, plain, placed, name, int, natural, quoted, end, nothing}
-use Rattle.function_language.specs.Printing.{PrintIsReadAgain, function_in, function_line, lexeme_of, relined}
+use Rattle.program_tokens.specs.Pieces.{Fits, Piece, Stand, plain, placed, name, int, natural, quoted, end, nothing}
+use Rattle.function_language.specs.Printing.{PrintIsReadAgain, function_in, function_line, relined}
+use Rattle.program_tokens.specs.Pieces.{lexeme_of}
 use Rattle.function_language.specs.Spelled.{function_pieces, functions_pieces}
-use Rattle.function_language.specs.Texts.{only_functions_pieces}
-use Rattle.function_language.proofs.Inner.{AreInner, functions_inner}
+use Rattle.program_tokens.specs.Pieces.{IsPlace}
+use Rattle.function_language.specs.Spelled.{only_functions_pieces}
+use Rattle.function_language.proofs.Inner.{functions_inner}
+use Rattle.program_tokens.proofs.Inner.{AreInner, IsInner}
 use Rattle.function_language.proofs.PrintingLines.{function_pieces_in, piece_in}
-use Rattle.function_language.proofs.PrintingPlaces.{all_back, all_front}
+use Rattle.program_tokens.proofs.Places.{all_back, all_front, name_spelled}
 
 -- a token in this line
 abbrev at_line : ℕ → Lexeme → Token
@@ -27,30 +30,21 @@ record IsPrinted (piece : Piece) : Type 0 where
 abbrev ArePrinted : List Piece → Type 0
 ArePrinted pieces = AllByRecursion IsPrinted pieces
 
--- what follows the token of a place
-record Goes (piece : Piece) (on : List ℕ → Type 0) : Type 0 where
-  pub printed : IsPrinted piece
-  pub rest : List ℕ
-  pub goes_on : on rest
+-- the token of a place within functions is printed
+place_printed : (piece : Piece) → IsInner piece → IsPlace piece → IsPrinted piece
+place_printed (plain word) i p = record { spelled = i; fits = λ line. refl }
+place_printed (placed word line) i p = record { spelled = i; fits = λ line. (refl, refl) }
+place_printed (name ident) i p = record { spelled = name_spelled ident.text p; fits = λ line. (refl, refl, p) }
+place_printed (int number) i p = record { spelled = p; fits = λ line. (refl, refl) }
+place_printed (natural number) i p = record { spelled = p.1; fits = λ line. (refl, refl, p.0) }
+place_printed (quoted text line) i p = record { spelled = p; fits = λ line. (refl, refl) }
+place_printed end i p = absurd i
+place_printed nothing i p = absurd p
 
--- the place of a token that was read is printed, and others follow
-read_goes : (piece : Piece) (rest : List Piece) (token : Token) (text : List ℕ) (tokens : List Token) (on : List ℕ → Type 0) → AreInner (piece ∷ rest) → Fits piece token → Follows token.lexeme text tokens on → Goes piece on
-read_goes (plain word) rest token text tokens on i f r = let s = subst (λ l. Follows l text tokens on) f r in record { printed = record { spelled = s.1.is; fits = λ line. refl }; rest = s.0; goes_on = s.2 }
-read_goes (placed word line) rest token text tokens on i f r = let s = subst (λ l. Follows l text tokens on) f.0 r in record { printed = record { spelled = s.1.is; fits = λ line. (refl, refl) }; rest = s.0; goes_on = s.2 }
-read_goes (name ident) rest token text tokens on i f r = let s = subst (λ l. Follows l text tokens on) f.0 r in record { printed = record { spelled = s.1.is; fits = λ line. (refl, refl, f.2) }; rest = s.0; goes_on = s.2 }
-read_goes (int number) rest token text tokens on i f r = let s = subst (λ l. Follows l text tokens on) f.0 r in record { printed = record { spelled = s.1.is; fits = λ line. (refl, refl) }; rest = s.0; goes_on = s.2 }
-read_goes (natural number) rest token text tokens on i f r = let s = subst (λ l. Follows l text tokens on) f.0 r in record { printed = record { spelled = s.1.is; fits = λ line. (refl, refl, f.2) }; rest = s.0; goes_on = s.2 }
-read_goes (quoted quote line) rest token text tokens on i f r = let s = subst (λ l. Follows l text tokens on) f.0 r in record { printed = record { spelled = s.1.is; fits = λ line. (refl, refl) }; rest = s.0; goes_on = s.2 }
-read_goes end rest token text tokens on i f r = absurd i.0
-read_goes nothing rest token text tokens on i f r = absurd f
-
--- the places of a text's tokens are printed
-read_printed : (last : ℕ) (text : List ℕ) (pieces : List Piece) (tokens : List Token) → AreInner pieces → Stand (pieces ++ end ∷ []) tokens → AreTokens last text tokens → ArePrinted pieces
-read_printed last text [] tokens i s a = tt
-read_printed last text (piece ∷ pieces) [] i s a = absurd s
-read_printed last text (piece ∷ pieces) (token ∷ tokens) i s a =
-    let g = read_goes piece pieces token _ tokens (λ rest. AreTokens last rest tokens) i s.0 a.1 in
-    (g.printed, read_printed last g.rest pieces tokens i.1 s.1 g.goes_on)
+-- so are those of all places
+places_printed : (pieces : List Piece) → AreInner pieces → AllByRecursion IsPlace pieces → ArePrinted pieces
+places_printed [] i p = tt
+places_printed (piece ∷ pieces) i p = (place_printed piece i.0 p.0, places_printed pieces i.1 p.1)
 
 -- the tokens of places that are printed can be spelled
 line_spelled : (pieces : List Piece) → ArePrinted pieces → AllByRecursion IsSpelled (map lexeme_of pieces)
@@ -86,8 +80,8 @@ lines_stand line (function ∷ functions) p =
 
 -- what is printed is read again
 pub print_is_read_again : PrintIsReadAgain
-print_is_read_again text functions t =
-    let p = read_printed _ text (functions_pieces functions) t.tokens (functions_inner functions) t.stand t.are in
+print_is_read_again functions can =
+    let p = places_printed (functions_pieces functions) (functions_inner functions) can in
     record {
       tokens = in_lines 1 (map function_line functions);
       are = printed_is_read (map function_line functions) (lines_spelled functions p);

@@ -7,14 +7,16 @@ use Rattle.hal_base.specs.declared.value.Kind.TheVariants as a_kind
 use Rattle.function_language.specs.declared.tree.Expr.{Expr, Int, Text, Round, Name, Call', Row_of-Expr, end_of-Expr, more_of-Expr}
 use Rattle.function_language.specs.declared.tree.Function.{Function}
 use Rattle.function_language.specs.declared.tree.Function.TheVariants.{Map, Reduce, Distance, Partition}
-use Rattle.function_language.specs.declared.tree.Ident.{Ident}
+use Rattle.program_tokens.specs.declared.token.Ident.{Ident}
 use Rattle.function_language.specs.declared.tree.Param.{Param}
 use Rattle.function_language.specs.declared.tree.Row.{Row}
 use Rattle.function_language.specs.declared.tree.Statement.{Statement, Let, Set, If', For', Emit, Give, Row_of-Statement, end_of-Statement, more_of-Statement, Held-Statement-If-2, None', Some'}
 use Rattle.function_language.specs.declared.tree.Stream.{Stream}
-use Rattle.function_language.specs.Pieces.{Piece, plain, placed, name, int, natural, quoted, end, nothing}
+use Rattle.program_tokens.specs.Pieces.{Piece, plain, placed, name, int, natural, quoted, end, nothing}
 use Rattle.function_language.specs.Printing.{args_in, expr_in, function_in, ident_in, other_in, param_in, row_in, statement_in, stream_in}
-use Rattle.function_language.specs.Spelled.{args_pieces, block_of, block_pieces, each_behind_comma, else_pieces, expr_pieces, function_pieces, idents_pieces, in_parentheses, kind_pieces, kinds_pieces, opened, out_pieces, param_pieces, row_pieces, separated, some_separated, statement_pieces, stream_pieces}
+use Rattle.function_language.specs.Spelled.{args_pieces, block_of, block_pieces, else_pieces, expr_pieces, function_pieces, idents_pieces, opened, out_pieces, param_pieces, row_pieces, statement_pieces, stream_pieces}
+use Rattle.program_tokens.specs.Pieces.{kind_pieces, kinds_pieces}
+use Rattle.program_tokens.specs.Pieces.{each_behind_comma, in_parentheses, comma_separated, some_comma_separated}
 
 -- a place in this line
 abbrev pub piece_in : ℕ → Piece → Piece
@@ -50,14 +52,14 @@ module _ (line : ℕ) where
   commas_in (pieces ∷ others) = ap (◌∷◌ (plain (codes ","))) (both_in (pieces_in pieces) pieces (each_behind_comma (map pieces_in others)) (each_behind_comma others) refl (commas_in others))
 
   -- places with commas between
-  separated_in : (moved all : List (List Piece)) → moved ≡ map pieces_in all → separated moved ≡ pieces_in (separated all)
-  separated_in moved [] e = ap separated e
-  separated_in moved (pieces ∷ others) e = ap separated e ∙ both_in (pieces_in pieces) pieces (each_behind_comma (map pieces_in others)) (each_behind_comma others) refl (commas_in others)
+  separated_in : (moved all : List (List Piece)) → moved ≡ map pieces_in all → comma_separated moved ≡ pieces_in (comma_separated all)
+  separated_in moved [] e = ap comma_separated e
+  separated_in moved (pieces ∷ others) e = ap comma_separated e ∙ both_in (pieces_in pieces) pieces (each_behind_comma (map pieces_in others)) (each_behind_comma others) refl (commas_in others)
 
   -- the same, but at least one
-  some_separated_in : (moved all : List (List Piece)) → moved ≡ map pieces_in all → some_separated moved ≡ pieces_in (some_separated all)
-  some_separated_in moved [] e = ap some_separated e
-  some_separated_in moved (pieces ∷ others) e = ap some_separated e ∙ both_in (pieces_in pieces) pieces (each_behind_comma (map pieces_in others)) (each_behind_comma others) refl (commas_in others)
+  some_separated_in : (moved all : List (List Piece)) → moved ≡ map pieces_in all → some_comma_separated moved ≡ pieces_in (some_comma_separated all)
+  some_separated_in moved [] e = ap some_comma_separated e
+  some_separated_in moved (pieces ∷ others) e = ap some_comma_separated e ∙ both_in (pieces_in pieces) pieces (each_behind_comma (map pieces_in others)) (each_behind_comma others) refl (commas_in others)
 
   -- items that are moved one by one are spelled so
   each_in : {A : Type 0} (f : A → List Piece) (g : A → A) → ((a : A) → f (g a) ≡ pieces_in (f a)) → (xs : List A) → map f (map g xs) ≡ map pieces_in (map f xs)
@@ -89,7 +91,7 @@ module _ (line : ℕ) where
     expr_pieces_in depth (Text other value) = refl
     expr_pieces_in depth (Round other) = refl
     expr_pieces_in depth (Name ident) = refl
-    expr_pieces_in depth (Call' ident shape args) = ap (◌∷◌ (name (ident_in line ident))) (within_in depth (codes "(") (codes ")") (separated (args_pieces (pred depth) (args_in line args))) (separated (args_pieces (pred depth) args)) (separated_in (args_pieces (pred depth) (args_in line args)) (args_pieces (pred depth) args) (args_pieces_in (pred depth) args)))
+    expr_pieces_in depth (Call' ident shape args) = ap (◌∷◌ (name (ident_in line ident))) (within_in depth (codes "(") (codes ")") (comma_separated (args_pieces (pred depth) (args_in line args))) (comma_separated (args_pieces (pred depth) args)) (separated_in (args_pieces (pred depth) (args_in line args)) (args_pieces (pred depth) args) (args_pieces_in (pred depth) args)))
 
     -- so is each argument of a call
     args_pieces_in : {n : _} (depth : ℕ) (args : Row_of-Expr n) → args_pieces depth (args_in line args) ≡ map pieces_in (args_pieces depth args)
@@ -118,13 +120,13 @@ module _ (line : ℕ) where
         (both_in moved_test parted moved_block block (parentheses_in (expr_pieces depth (expr_in line test)) (expr_pieces depth test) (expr_pieces_in depth test)) (block_in depth (row_pieces (pred depth) (row_in line chosen)) (row_pieces (pred depth) chosen) (row_pieces_in (pred depth) chosen)))
         (else_pieces_in depth other))
     statement_pieces_in depth (For' idents stream shape body) =
-        let moved = separated (idents_pieces (map (ident_in line) idents)) in
-        ap (◌∷◌ (plain (codes "for"))) (both_in (in_parentheses moved) (in_parentheses (separated (idents_pieces idents))) _ _
-        (parentheses_in moved (separated (idents_pieces idents)) (separated_in (idents_pieces (map (ident_in line) idents)) (idents_pieces idents) (each_in (λ ident. name ident ∷ []) (ident_in line) (λ ident. refl) idents)))
+        let moved = comma_separated (idents_pieces (map (ident_in line) idents)) in
+        ap (◌∷◌ (plain (codes "for"))) (both_in (in_parentheses moved) (in_parentheses (comma_separated (idents_pieces idents))) _ _
+        (parentheses_in moved (comma_separated (idents_pieces idents)) (separated_in (idents_pieces (map (ident_in line) idents)) (idents_pieces idents) (each_in (λ ident. name ident ∷ []) (ident_in line) (λ ident. refl) idents)))
         (ap (λ pieces. plain (codes "in") ∷ name (ident_in line stream) ∷ pieces) (block_in depth (row_pieces (pred depth) (row_in line body)) (row_pieces (pred depth) body) (row_pieces_in (pred depth) body))))
     statement_pieces_in depth (Emit other args) =
         let moved = map (expr_pieces depth) (map (expr_in line) args) in
-        result_in (codes "emit") (separated moved) (separated (map (expr_pieces depth) args)) (separated_in moved (map (expr_pieces depth) args) (each_in (expr_pieces depth) (expr_in line) (expr_pieces_in depth) args))
+        result_in (codes "emit") (comma_separated moved) (comma_separated (map (expr_pieces depth) args)) (separated_in moved (map (expr_pieces depth) args) (each_in (expr_pieces depth) (expr_in line) (expr_pieces_in depth) args))
     statement_pieces_in depth (Give other value) = result_in (codes "give") (expr_pieces depth (expr_in line value)) (expr_pieces depth value) (expr_pieces_in depth value)
 
     -- so is what stands behind the block of an `if`
@@ -153,7 +155,7 @@ module _ (line : ℕ) where
 
   -- kinds between parentheses
   kinds_in : (kinds : List Kind) → kinds_pieces kinds ≡ pieces_in (kinds_pieces kinds)
-  kinds_in kinds = parentheses_in (separated (map kind_pieces kinds)) (separated (map kind_pieces kinds)) (separated_in (map kind_pieces kinds) (map kind_pieces kinds) (each_kind_in kinds))
+  kinds_in kinds = parentheses_in (comma_separated (map kind_pieces kinds)) (comma_separated (map kind_pieces kinds)) (separated_in (map kind_pieces kinds) (map kind_pieces kinds) (each_kind_in kinds))
 
   -- a parameter in the line is spelled in it
   param_pieces_in : (param : Param) → param_pieces (param_in line param) ≡ pieces_in (param_pieces param)
@@ -179,11 +181,11 @@ module _ (line : ℕ) where
   -- a function in the line is spelled in it
   pub function_pieces_in : (function : Function) → function_pieces (function_in line function) ≡ pieces_in (function_pieces function)
   function_pieces_in (Map ident params arrow out body) =
-      headed_in (codes "map") ident (some_separated (map param_pieces (map (param_in line) params))) (some_separated (map param_pieces params)) (out_pieces line out (map (statement_in line) body)) (out_pieces arrow out body)
+      headed_in (codes "map") ident (some_comma_separated (map param_pieces (map (param_in line) params))) (some_comma_separated (map param_pieces params)) (out_pieces line out (map (statement_in line) body)) (out_pieces arrow out body)
       (some_separated_in (map param_pieces (map (param_in line) params)) (map param_pieces params) (each_in param_pieces (param_in line) param_pieces_in params)) (out_in arrow out body)
   function_pieces_in (Reduce ident key streams arrow out body) =
-      let moved = some_separated (map stream_pieces (map (stream_in line) streams)) in
-      let pieces = some_separated (map stream_pieces streams) in
+      let moved = some_comma_separated (map stream_pieces (map (stream_in line) streams)) in
+      let pieces = some_comma_separated (map stream_pieces streams) in
       headed_in (codes "reduce") ident (param_pieces (param_in line key) ++ plain (codes ";") ∷ moved) (param_pieces key ++ plain (codes ";") ∷ pieces) (out_pieces line out (map (statement_in line) body)) (out_pieces arrow out body)
       (keyed_in key moved pieces (some_separated_in (map stream_pieces (map (stream_in line) streams)) (map stream_pieces streams) (each_in stream_pieces (stream_in line) stream_pieces_in streams))) (out_in arrow out body)
   function_pieces_in (Distance ident key prior later body) =

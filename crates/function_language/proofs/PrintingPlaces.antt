@@ -1,33 +1,27 @@
 -- What is written at places, one part after another.
-use Rattle.std.proofs.Common.{◌≡◌, ℕ, ◌+◌, ◌-◌, ◌<◌, Option, Some, List, [], ◌∷◌, ◌++◌, ◌∙◌, ap, ap₂, append_assoc, arith, codes, drop, get_or, length, map, refl, subst, sym, take}
-use Rattle.std.specs.List.{AllByRecursion, flat_map}
+use Rattle.std.proofs.Common.{◌≡◌, ℕ, zero, suc, ◌+◌, ◌-◌, ◌<◌, Option, Some, List, [], ◌∷◌, ◌++◌, ◌∙◌, ap, ap₂, append_assoc, arith, codes, drop, get_or, length, map, refl, subst, sym, take}
+use Rattle.std.specs.List.{flat_map}
 use Rattle.std.proofs.lemmas.List.{at_drop_more}
 use Rattle.std.proofs.Math.Seq.{take-length}
 use Rattle.program_tokens.specs.Tokens.{spaced, spelling}
 use Rattle.function_language.specs.declared.tree.Expr.{Expr}
 use Rattle.function_language.specs.declared.tree.Expr.TheVariants as an_expr
 use Rattle.function_language.specs.declared.tree.Function.{Function}
-use Rattle.function_language.specs.declared.tree.Ident.{Ident}
+use Rattle.program_tokens.specs.declared.token.Ident.{Ident}
 use Rattle.function_language.specs.declared.tree.Row.{Row}
 use Rattle.function_language.specs.declared.tree.Statement.{Statement}
 use Rattle.function_language.specs.declared.tree.Statement.TheVariants as a_statement
-use Rattle.function_language.specs.Pieces.{Piece, name, plain}
-use Rattle.function_language.specs.Printing.{function_line, lexeme_of, tree_text}
-use Rattle.function_language.specs.Printer.{ArePlaces, Written, put, put_all, put_line}
-use Rattle.function_language.specs.Spelled.{IsPlace, block_pieces, each_behind_comma, expr_pieces, idents_pieces, in_parentheses, kinds_pieces, out_pieces, separated, some_separated, statement_pieces}
-use Rattle.function_language.specs.SpelledLists.{call_pieces, for_pieces, if_pieces, other_pieces}
+use Rattle.program_tokens.specs.Pieces.{Piece, name, plain}
+use Rattle.function_language.specs.Printing.{function_line, tree_text}
+use Rattle.program_tokens.specs.Pieces.{lexeme_of}
+use Rattle.function_language.specs.steps.Printer.{ArePlaces, Written, put, put_all, put_line}
+use Rattle.function_language.specs.Spelled.{block_pieces, expr_pieces, idents_pieces, out_pieces, statement_pieces}
+use Rattle.program_tokens.specs.Pieces.{kinds_pieces}
+use Rattle.program_tokens.specs.Pieces.{IsPlace, each_behind_comma, in_parentheses, comma_separated, some_comma_separated}
+use Rattle.function_language.specs.steps.SpelledLists.{binding_pieces, call_pieces, for_pieces, if_pieces, other_pieces}
 use Rattle.function_language.proofs.GrammarExpressions.{call_spelled}
 use Rattle.function_language.proofs.GrammarStatements.{for_spelled, if_spelled}
-
--- of what holds of all, the first
-pub all_front : {A : Type 0} (P : A → Type 0) (xs ys : List A) → AllByRecursion P (xs ++ ys) → AllByRecursion P xs
-all_front P [] ys p = tt
-all_front P (x ∷ xs) ys p = (p.0, all_front P xs ys p.1)
-
--- and the others
-pub all_back : {A : Type 0} (P : A → Type 0) (xs ys : List A) → AllByRecursion P (xs ++ ys) → AllByRecursion P ys
-all_back P [] ys p = p
-all_back P (x ∷ xs) ys p = all_back P xs ys p.1
+use Rattle.program_tokens.proofs.Places.{all_back, all_front}
 
 -- places one after another
 pub put_both : (written : Written) (pieces others : List Piece) → put_all written (pieces ++ others) ≡ put_all (put_all written pieces) others
@@ -65,10 +59,10 @@ module _ {A : Type 0} (f : A → List Piece) (xs : List A) where
   item_next i x l e = at_drop_more (flat_map f) xs i x l ∙ ap (λ x. f x ++ all_from (i + 1)) (sym e)
 
   -- the first item, and the others
-  first_and_others : (x : A) → 0 < length xs → x ≡ get_or xs 0 x → separated (map f xs) ≡ f x ++ others
+  first_and_others : (x : A) → 0 < length xs → x ≡ get_or xs 0 x → comma_separated (map f xs) ≡ f x ++ others
   first_and_others x some e = go xs some e
     where
-      go : (xs : List A) → 0 < length xs → x ≡ get_or xs 0 x → separated (map f xs) ≡ f x ++ each_behind_comma (map f (take (length xs - 1) (drop 1 xs)))
+      go : (xs : List A) → 0 < length xs → x ≡ get_or xs 0 x → comma_separated (map f xs) ≡ f x ++ each_behind_comma (map f (take (length xs - 1) (drop 1 xs)))
       go [] some e = absurd (omega arith)
       go (y ∷ ys) some e =
           let fewer : length (y ∷ ys) - 1 ≡ length ys = omega arith in
@@ -84,8 +78,8 @@ module _ {A : Type 0} (f : A → List Piece) (xs : List A) where
   item_written i x l e w₀ w₁ part = part_before w₀ w₁ (f x) (all_from (i + 1)) (all_from i) (item_next i x l e) part
 
   -- the first item and the others are all
-  pub others_written : (x : A) → 0 < length xs → x ≡ get_or xs 0 x → (w₀ w₁ w₂ : Written) → w₁ ≡ put_all w₀ (f x) → w₂ ≡ put_all w₁ others → w₂ ≡ put_all w₀ (separated (map f xs))
-  others_written x some e w₀ w₁ w₂ part rest = rest ∙ part_before w₀ w₁ (f x) others (separated (map f xs)) (first_and_others x some e) part
+  pub others_written : (x : A) → 0 < length xs → x ≡ get_or xs 0 x → (w₀ w₁ w₂ : Written) → w₁ ≡ put_all w₀ (f x) → w₂ ≡ put_all w₁ others → w₂ ≡ put_all w₀ (comma_separated (map f xs))
+  others_written x some e w₀ w₁ w₂ part rest = rest ∙ part_before w₀ w₁ (f x) others (comma_separated (map f xs)) (first_and_others x some e) part
 
   -- the next item behind a comma has places, and what is left then
   pub comma_places : (i : ℕ) (x : A) → i < length xs → x ≡ get_or xs i x → ArePlaces (commas_from i) → ArePlaces (f x) × ArePlaces (commas_from (i + 1))
@@ -96,12 +90,19 @@ module _ {A : Type 0} (f : A → List Piece) (xs : List A) where
   item_places i x l e p = let all = subst ArePlaces (item_next i x l e) p in (all_front IsPlace (f x) (all_from (i + 1)) all, all_back IsPlace (f x) (all_from (i + 1)) all)
 
   -- the first item has places, and the others
-  pub others_places : (x : A) → 0 < length xs → x ≡ get_or xs 0 x → ArePlaces (separated (map f xs)) → ArePlaces (f x) × ArePlaces others
+  pub others_places : (x : A) → 0 < length xs → x ≡ get_or xs 0 x → ArePlaces (comma_separated (map f xs)) → ArePlaces (f x) × ArePlaces others
   others_places x some e p = let all = subst ArePlaces (first_and_others x some e) p in (all_front IsPlace (f x) others all, all_back IsPlace (f x) others all)
 
 -- a call has places behind its name
 pub call_places : (depth : ℕ) (e : Expr) (i : Ident) (args slice : List Expr) → e ≡ an_expr.Call i args → slice ≡ args → ArePlaces (expr_pieces depth e) → ArePlaces (call_pieces depth slice)
 call_places depth e i args slice is same p = subst (λ args. ArePlaces (call_pieces depth args)) (sym same) ((subst ArePlaces (ap (expr_pieces depth) is ∙ call_spelled depth i args) p).1)
+
+-- a call that has places opens, and so have its arguments
+pub call_inside : (depth : ℕ) (args : List Expr) → ArePlaces (call_pieces depth args) → (0 < depth) × ArePlaces (comma_separated (map (expr_pieces (depth - 1)) args))
+call_inside zero args p = absurd p.0
+call_inside (suc depth) args p =
+    let before : depth ≡ suc depth - 1 = omega arith in
+    (omega arith, subst (λ depth. ArePlaces (comma_separated (map (expr_pieces depth) args))) before (all_front IsPlace (comma_separated (map (expr_pieces depth) args)) (plain (codes ")") ∷ []) p.1))
 
 -- a call is written behind its name
 pub call_written : (w₀ w₁ w₂ : Written) (depth : ℕ) (e : Expr) (i : Ident) (args slice : List Expr) → e ≡ an_expr.Call i args → slice ≡ args → w₁ ≡ put_all w₀ (name i ∷ []) → w₂ ≡ put_all w₁ (call_pieces depth slice) → w₂ ≡ put_all w₀ (expr_pieces depth e)
@@ -111,6 +112,21 @@ call_written w₀ w₁ w₂ depth e i args slice is same named called =
 -- what stands between parentheses, with something behind
 between : (pieces rest : List Piece) → ArePlaces ((pieces ++ plain (codes ")") ∷ []) ++ rest) → ArePlaces pieces
 between pieces rest p = all_front IsPlace pieces (plain (codes ")") ∷ []) (all_front IsPlace (pieces ++ plain (codes ")") ∷ []) rest p)
+
+-- a block that has places opens, and so have its statements
+pub block_inside : (depth : ℕ) (block : List Statement) → ArePlaces (block_pieces depth block) → (0 < depth) × ArePlaces (flat_map (statement_pieces (depth - 1)) block)
+block_inside zero block p = absurd p.0
+block_inside (suc depth) block p =
+    let before : depth ≡ suc depth - 1 = omega arith in
+    (omega arith, subst (λ depth. ArePlaces (flat_map (statement_pieces depth) block)) before (all_front IsPlace (flat_map (statement_pieces depth) block) (plain (codes "}") ∷ []) p.1))
+
+-- the value of a `let` or a `set` has places
+pub binding_places : (depth : ℕ) (word : List ℕ) (i : Ident) (value : Expr) → ArePlaces (binding_pieces depth word i value) → ArePlaces (expr_pieces depth value)
+binding_places depth word i value p = all_front IsPlace (expr_pieces depth value) (plain (codes ";") ∷ []) p.1.1.1
+
+-- the test of an `if` has places
+pub test_places : (depth : ℕ) (test : Expr) (chosen : List Statement) (other : Option (List Statement)) → ArePlaces (if_pieces depth test chosen other) → ArePlaces (expr_pieces depth test)
+test_places depth test chosen other p = all_front IsPlace (expr_pieces depth test) (plain (codes ")") ∷ (block_pieces depth chosen ++ other_pieces depth other)) p.1.1
 
 -- an `if` has places
 pub if_places : (depth : ℕ) (s : Statement) (test : Expr) (chosen : List Statement) (other : Option (List Statement)) → s ≡ a_statement.If test chosen other → ArePlaces (statement_pieces depth s) → ArePlaces (if_pieces depth test chosen other)
@@ -141,7 +157,7 @@ for_places depth s idents stream body is p = subst ArePlaces (ap (statement_piec
 -- so has its block
 pub body_places : (depth : ℕ) (idents : List Ident) (stream : Ident) (body slice : List Statement) → slice ≡ body → ArePlaces (for_pieces depth idents stream body) → ArePlaces (block_pieces depth slice)
 body_places depth idents stream body slice same p =
-    let names = separated (idents_pieces idents) in
+    let names = comma_separated (idents_pieces idents) in
     subst (λ block. ArePlaces (block_pieces depth block)) (sym same) ((all_back IsPlace (names ++ plain (codes ")") ∷ []) (plain (codes "in") ∷ name stream ∷ block_pieces depth body) p.1.1).1.1)
 
 -- a `for` is written as a statement
@@ -149,9 +165,9 @@ pub for_written : (w₀ w₁ : Written) (depth : ℕ) (s : Statement) (idents : 
 for_written w₀ w₁ depth s idents stream body is e = e ∙ ap (put_all w₀) (for_spelled depth idents stream body ∙ sym (ap (statement_pieces depth) is))
 
 -- the arguments of an `emit` have places
-pub emit_places : (depth : ℕ) (s : Statement) (line : ℕ) (args slice : List Expr) → s ≡ a_statement.Emit line args → slice ≡ args → ArePlaces (statement_pieces depth s) → ArePlaces (separated (map (expr_pieces depth) slice))
+pub emit_places : (depth : ℕ) (s : Statement) (line : ℕ) (args slice : List Expr) → s ≡ a_statement.Emit line args → slice ≡ args → ArePlaces (statement_pieces depth s) → ArePlaces (comma_separated (map (expr_pieces depth) slice))
 emit_places depth s line args slice is same p =
-    subst (λ args. ArePlaces (separated (map (expr_pieces depth) args))) (sym same) (between (separated (map (expr_pieces depth) args)) (plain (codes ";") ∷ []) ((subst ArePlaces (ap (statement_pieces depth) is) p).1.1))
+    subst (λ args. ArePlaces (comma_separated (map (expr_pieces depth) args))) (sym same) (between (comma_separated (map (expr_pieces depth) args)) (plain (codes ";") ∷ []) ((subst ArePlaces (ap (statement_pieces depth) is) p).1.1))
 
 -- the value of a `give` has places
 pub give_places : (depth : ℕ) (s : Statement) (line : ℕ) (value : Expr) → s ≡ a_statement.Give line value → ArePlaces (statement_pieces depth s) → ArePlaces (expr_pieces depth value)
@@ -184,7 +200,7 @@ pub any_places : (word : List ℕ) (i : Ident) (pieces : List Piece) (arrow othe
 any_places word i pieces arrow other out body p =
     let front = pieces ++ plain (codes ")") ∷ [] in
     let back = (all_back IsPlace front (out_pieces arrow out body) p.1.1.1).1 in
-    (tt, (tt, (tt, both_places front (out_pieces other out body) (all_front IsPlace front (out_pieces arrow out body) p.1.1.1) (tt, back))))
+    (tt, (p.1.0, (tt, both_places front (out_pieces other out body) (all_front IsPlace front (out_pieces arrow out body) p.1.1.1) (tt, back))))
 
 -- it is written alike
 pub any_written : (w : Written) (word : List ℕ) (i : Ident) (pieces : List Piece) (arrow other : ℕ) (out : Row) (body : List Statement) → put_all w (emitting word i pieces arrow out body) ≡ put_all w (emitting word i pieces other out body)
@@ -202,6 +218,6 @@ line_written functions i function l e w₀ w₁ line =
     ∙ sym (ap (λ text. w₀.0 ++ text) (at_drop_more tree_text functions i function l ∙ ap (λ function. tree_text (function ∷ drop (i + 1) functions)) (sym e)))
 
 -- where one at least is asked for and all are places, one is there
-pub some_are : (all : List (List Piece)) → ArePlaces (some_separated all) → some_separated all ≡ separated all
+pub some_are : (all : List (List Piece)) → ArePlaces (some_comma_separated all) → some_comma_separated all ≡ comma_separated all
 some_are [] p = absurd p.0
 some_are (pieces ∷ more) p = refl

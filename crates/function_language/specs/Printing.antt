@@ -1,29 +1,18 @@
 -- How functions are printed: each on a line of its own.
 use Rattle.std.specs.Prelude.{ℕ, ◌+◌, List, [], ◌∷◌, map}
 use Rattle.program_tokens.specs.declared.token.Lexeme.{Lexeme}
-use Rattle.program_tokens.specs.declared.token.Lexeme.TheVariants as lexeme
 use Rattle.program_tokens.specs.Tokens.{printed}
 use Rattle.function_language.specs.declared.tree.Expr.{Expr, Int, Text, Round, Name, Call', Row_of-Expr, end_of-Expr, more_of-Expr}
 use Rattle.function_language.specs.declared.tree.Function.{Function}
 use Rattle.function_language.specs.declared.tree.Function.TheVariants.{Map, Reduce, Distance, Partition}
-use Rattle.function_language.specs.declared.tree.Ident.{Ident}
+use Rattle.program_tokens.specs.declared.token.Ident.{Ident}
 use Rattle.function_language.specs.declared.tree.Param.{Param}
 use Rattle.function_language.specs.declared.tree.Statement.{Statement, Let, Set, If', For', Emit, Give, Row_of-Statement, end_of-Statement, more_of-Statement, Held-Statement-If-2, None', Some'}
 use Rattle.function_language.specs.declared.tree.Stream.{Stream}
-use Rattle.function_language.specs.Pieces.{Piece, plain, placed, name, int, natural, quoted, end, nothing}
-use Rattle.function_language.specs.Spelled.{function_pieces}
-use Rattle.function_language.specs.Texts.{IsTextOf, only_functions_pieces}
-
--- the token that stands at a place; at `nothing` none can
-abbrev pub lexeme_of : Piece → Lexeme
-lexeme_of (plain word) = lexeme.Plain word
-lexeme_of (placed word line) = lexeme.Plain word
-lexeme_of (name ident) = lexeme.Plain ident.text
-lexeme_of (int number) = lexeme.Int number.value
-lexeme_of (natural number) = lexeme.Int number.value
-lexeme_of (quoted text line) = lexeme.Quoted text
-lexeme_of end = lexeme.End
-lexeme_of nothing = lexeme.Bad
+use Rattle.program_tokens.specs.Pieces.{lexeme_of}
+use Rattle.function_language.specs.Spelled.{CanBeSpelled, function_pieces}
+use Rattle.program_tokens.specs.Texts.{IsTextOf}
+use Rattle.function_language.specs.Spelled.{only_functions_pieces}
 
 -- the tokens of a function
 abbrev pub function_line : Function → List Lexeme
@@ -91,6 +80,6 @@ abbrev pub relined : ℕ → List Function → List Function
 relined line [] = []
 relined line (function ∷ functions) = function_in line function ∷ relined (line + 1) functions
 
--- the print of functions that a text has is a text of these functions, each in its line
+-- the print of any functions that can be spelled is a text of these functions, each in its line
 abbrev pub PrintIsReadAgain : Type 0
-PrintIsReadAgain = (text : List ℕ) (functions : List Function) → IsTextOf only_functions_pieces text functions → IsTextOf only_functions_pieces (tree_text functions) (relined 1 functions)
+PrintIsReadAgain = (functions : List Function) → CanBeSpelled functions → IsTextOf only_functions_pieces (tree_text functions) (relined 1 functions)

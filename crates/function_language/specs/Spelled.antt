@@ -1,9 +1,7 @@
 -- How functions are spelled: what stands at each place of their text. The number is how many blocks and calls may still open inside.
 use Rattle.std.specs.Prelude.{ℕ, zero, suc, pred, List, [], ◌∷◌, ◌++◌, map, codes}
 use Rattle.std.specs.List.{AllByRecursion, flat_map}
-use Rattle.hal_base.specs.declared.value.Kind.{Kind}
-use Rattle.hal_base.specs.declared.value.Kind.TheVariants as kind
-use Rattle.function_language.specs.declared.tree.Ident.{Ident}
+use Rattle.program_tokens.specs.declared.token.Ident.{Ident}
 use Rattle.function_language.specs.declared.tree.Param.{Param}
 use Rattle.function_language.specs.declared.tree.Row.{Row}
 use Rattle.function_language.specs.declared.tree.Stream.{Stream}
@@ -11,26 +9,7 @@ use Rattle.function_language.specs.declared.tree.Expr.{Expr, Int, Text, Round, N
 use Rattle.function_language.specs.declared.tree.Statement.{Statement, Let, Set, If', For', Emit, Give, Row_of-Statement, end_of-Statement, more_of-Statement, Held-Statement-If-2, None', Some'}
 use Rattle.function_language.specs.declared.tree.Function.{Function}
 use Rattle.function_language.specs.declared.tree.Function.TheVariants.{Map, Reduce, Distance, Partition}
-use Rattle.function_language.specs.Pieces.{Piece, plain, placed, name, int, natural, quoted, end, nothing}
-
--- each with a comma before it
-abbrev pub each_behind_comma : List (List Piece) → List Piece
-each_behind_comma [] = []
-each_behind_comma (pieces ∷ others) = plain (codes ",") ∷ pieces ++ each_behind_comma others
-
--- one after another, with a comma between two; perhaps none
-abbrev pub separated : List (List Piece) → List Piece
-separated [] = []
-separated (pieces ∷ others) = pieces ++ each_behind_comma others
-
--- the same, but at least one
-abbrev pub some_separated : List (List Piece) → List Piece
-some_separated [] = nothing ∷ []
-some_separated (pieces ∷ others) = pieces ++ each_behind_comma others
-
--- between parentheses
-abbrev pub in_parentheses : List Piece → List Piece
-in_parentheses pieces = plain (codes "(") ∷ pieces ++ plain (codes ")") ∷ []
+use Rattle.program_tokens.specs.Pieces.{IsPlace, Piece, comma_separated, in_parentheses, kind_pieces, kinds_pieces, plain, placed, name, int, quoted, end, nothing, some_comma_separated}
 
 -- the mark that opens a block or a call, where one more may open
 abbrev pub opened : ℕ → List ℕ → Piece
@@ -44,7 +23,7 @@ abbrev mutual
   expr_pieces depth (Text line value) = quoted value line ∷ []
   expr_pieces depth (Round line) = placed (codes "round") line ∷ []
   expr_pieces depth (Name ident) = name ident ∷ []
-  expr_pieces depth (Call' ident shape args) = name ident ∷ opened depth (codes "(") ∷ separated (args_pieces (pred depth) args) ++ plain (codes ")") ∷ []
+  expr_pieces depth (Call' ident shape args) = name ident ∷ opened depth (codes "(") ∷ comma_separated (args_pieces (pred depth) args) ++ plain (codes ")") ∷ []
 
   -- each argument of a call
   pub args_pieces : {n : _} → ℕ → Row_of-Expr n → List (List Piece)
@@ -65,8 +44,8 @@ abbrev mutual
   statement_pieces depth (Let ident value) = plain (codes "let") ∷ name ident ∷ plain (codes "=") ∷ expr_pieces depth value ++ plain (codes ";") ∷ []
   statement_pieces depth (Set ident value) = plain (codes "set") ∷ name ident ∷ plain (codes "=") ∷ expr_pieces depth value ++ plain (codes ";") ∷ []
   statement_pieces depth (If' test shape chosen other) = plain (codes "if") ∷ in_parentheses (expr_pieces depth test) ++ block_of depth (row_pieces (pred depth) chosen) ++ else_pieces depth other
-  statement_pieces depth (For' idents stream shape body) = plain (codes "for") ∷ in_parentheses (separated (idents_pieces idents)) ++ plain (codes "in") ∷ name stream ∷ block_of depth (row_pieces (pred depth) body)
-  statement_pieces depth (Emit line args) = placed (codes "emit") line ∷ in_parentheses (separated (map (expr_pieces depth) args)) ++ plain (codes ";") ∷ []
+  statement_pieces depth (For' idents stream shape body) = plain (codes "for") ∷ in_parentheses (comma_separated (idents_pieces idents)) ++ plain (codes "in") ∷ name stream ∷ block_of depth (row_pieces (pred depth) body)
+  statement_pieces depth (Emit line args) = placed (codes "emit") line ∷ in_parentheses (comma_separated (map (expr_pieces depth) args)) ++ plain (codes ";") ∷ []
   statement_pieces depth (Give line value) = placed (codes "give") line ∷ in_parentheses (expr_pieces depth value) ++ plain (codes ";") ∷ []
 
   -- what stands behind the block of an `if`
@@ -83,15 +62,6 @@ abbrev mutual
 abbrev pub block_pieces : ℕ → List Statement → List Piece
 block_pieces depth statements = block_of depth (flat_map (statement_pieces (pred depth)) statements)
 
--- a kind
-abbrev pub kind_pieces : Kind → List Piece
-kind_pieces kind.Int = plain (codes "int") ∷ []
-kind_pieces kind.Text = plain (codes "text") ∷ []
-
--- kinds
-abbrev pub kinds_pieces : List Kind → List Piece
-kinds_pieces kinds = in_parentheses (separated (map kind_pieces kinds))
-
 -- a parameter
 abbrev pub param_pieces : Param → List Piece
 param_pieces param = name param.name ∷ plain (codes ":") ∷ kind_pieces param.kind
@@ -106,9 +76,9 @@ out_pieces arrow out body = placed (codes "->") arrow ∷ kinds_pieces out.kinds
 
 -- a function
 abbrev pub function_pieces : Function → List Piece
-function_pieces (Map ident params arrow out body) = plain (codes "map") ∷ name ident ∷ in_parentheses (some_separated (map param_pieces params)) ++ out_pieces arrow out body
+function_pieces (Map ident params arrow out body) = plain (codes "map") ∷ name ident ∷ in_parentheses (some_comma_separated (map param_pieces params)) ++ out_pieces arrow out body
 function_pieces (Reduce ident key streams arrow out body) =
-    plain (codes "reduce") ∷ name ident ∷ in_parentheses (param_pieces key ++ plain (codes ";") ∷ some_separated (map stream_pieces streams)) ++ out_pieces arrow out body
+    plain (codes "reduce") ∷ name ident ∷ in_parentheses (param_pieces key ++ plain (codes ";") ∷ some_comma_separated (map stream_pieces streams)) ++ out_pieces arrow out body
 function_pieces (Distance ident key before after body) =
     plain (codes "distance") ∷ name ident ∷ in_parentheses (param_pieces key ++ plain (codes ";") ∷ stream_pieces before ++ plain (codes ",") ∷ stream_pieces after) ++ block_pieces 32 body
 function_pieces (Partition ident key body) = plain (codes "partition") ∷ name ident ∷ in_parentheses (param_pieces key) ++ block_pieces 32 body
@@ -117,17 +87,10 @@ function_pieces (Partition ident key body) = plain (codes "partition") ∷ name 
 abbrev pub functions_pieces : List Function → List Piece
 functions_pieces functions = flat_map function_pieces functions
 
--- a place at which a token may stand
-abbrev pub IsPlace : Piece → Type 0
-IsPlace (plain word) = Unit {0}
-IsPlace (placed word line) = Unit {0}
-IsPlace (name ident) = Unit {0}
-IsPlace (int number) = Unit {0}
-IsPlace (natural number) = Unit {0}
-IsPlace (quoted text line) = Unit {0}
-IsPlace end = Unit {0}
-IsPlace nothing = ⊥
-
--- the functions have all that the grammar asks for, and no more than 32 blocks and calls are open in them
+-- the functions have all that the grammar asks for, no more than 32 blocks and calls are open in them, and their numbers and texts are values
 abbrev pub CanBeSpelled : List Function → Type 0
 CanBeSpelled functions = AllByRecursion IsPlace (functions_pieces functions)
+
+-- functions alone, to the end of the text
+abbrev pub only_functions_pieces : List Function → List Piece
+only_functions_pieces functions = functions_pieces functions ++ end ∷ []

@@ -1,12 +1,10 @@
 ghost use Rattle.std.specs.Prelude.{◌≡◌, ◌<◌, length, is_some, OnOk};
-ghost use Rattle.function_language.specs.Parsers as parsers;
-ghost use Rattle.function_language.specs.Parsers.{Reads, closed, separated};
-ghost use Rattle.function_language.specs.Reading as reading;
+ghost use Rattle.program_tokens.specs.steps.Parsers as parsers;
+ghost use Rattle.program_tokens.specs.steps.Parsers.{Reads, closed, separated};
+ghost use Rattle.function_language.specs.steps.Reading as reading;
 
-use crate::fault::SyntaxFault;
-use crate::steps::{eat, expect, ident, refused};
-use crate::tree::{Expr, Exprs, Ident};
-use program_tokens::{Lexeme, Token, Tokens};
+use crate::tree::{Expr, Exprs};
+use program_tokens::{Ident, Lexeme, SyntaxFault, Token, Tokens, eat, expect, ident, refused};
 use sqlite_items::Items;
 use std::alloc::Global;
 
@@ -23,7 +21,7 @@ pub(crate) fn expr(alloc: Global, tokens: &mut Tokens, depth: u32) -> Result<Exp
 
 /// Reads a name, or a call.
 #[cycle(expression)]
-#[tactic(auto, unfolding(crate::specs::Reading::named))]
+#[tactic(auto, unfolding(crate::specs::steps::Reading::named))]
 fn named(alloc: Global, tokens: &mut Tokens, depth: u32) -> Result<Expr, SyntaxFault>
     ensures { Reads (reading.named (reading.call depth) tokens.old) result tokens.new }
 {
@@ -36,7 +34,7 @@ fn named(alloc: Global, tokens: &mut Tokens, depth: u32) -> Result<Expr, SyntaxF
 
 /// Reads a call behind its name.
 #[cycle(expression)]
-#[tactic(auto, unfolding(crate::specs::Reading::call_of))]
+#[tactic(auto, unfolding(crate::specs::steps::Reading::call_of))]
 fn call(alloc: Global, tokens: &mut Tokens, depth: u32, name: Ident) -> Result<Expr, SyntaxFault>
     ensures { Reads (reading.call depth name tokens.old) result tokens.new }
 {
@@ -50,7 +48,6 @@ fn call(alloc: Global, tokens: &mut Tokens, depth: u32, name: Ident) -> Result<E
 
 /// Reads expressions, perhaps none, and the `)` behind them.
 #[cycle(expression)]
-#[tactic(auto, unfolding(crate::specs::Parsers::closed))]
 pub(crate) fn arguments(
     alloc: Global,
     tokens: &mut Tokens,
@@ -81,7 +78,7 @@ fn some_arguments(alloc: Global, tokens: &mut Tokens, depth: u32) -> Result<Expr
 }
 
 /// Takes a number, a text or `round`, if one comes next.
-#[tactic(auto, unfolding(crate::specs::Reading::literal))]
+#[tactic(auto, unfolding(crate::specs::steps::Reading::literal))]
 fn literal(alloc: Global, tokens: &mut Tokens) -> Result<Option<Expr>, SyntaxFault>
     ensures { Reads (reading.literal tokens.old) result tokens.new }
 {

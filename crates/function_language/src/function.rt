@@ -1,13 +1,14 @@
 ghost use Rattle.std.specs.Prelude.{◌≡◌};
-ghost use Rattle.function_language.specs.Parsers.{Reads};
-ghost use Rattle.function_language.specs.Reading as reading;
+ghost use Rattle.program_tokens.specs.steps.Parsers.{Reads};
+ghost use Rattle.function_language.specs.steps.Reading as reading;
 
-use crate::fault::SyntaxFault;
-use crate::items::{Item, Repeated, kinds, param, read_repeated, separated, stream};
+use crate::signature::{param, stream};
 use crate::statement::block;
-use crate::steps::{eat, expect, expect_line, ident};
 use crate::tree::{Function, Row, Tree};
-use program_tokens::Tokens;
+use program_tokens::{
+    Item, Repeated, SyntaxFault, Tokens, eat, expect, expect_line, ident, kinds, read_repeated,
+    separated,
+};
 use sqlite_items::Items;
 use std::alloc::Global;
 
@@ -19,12 +20,14 @@ pub(crate) const DEPTH: u32 = 32;
 pub fn functions(alloc: Global, tokens: &mut Tokens) -> Result<Tree, SyntaxFault>
     ensures { Reads (reading.functions tokens.old) result tokens.new }
 {
+    // Each token that is left can be spelled, so what is read of them can be.
+    let _next = tokens.peek();
     let found = read_repeated(alloc, tokens, Items::new(alloc))?;
     Ok(Tree::new(found))
 }
 
 impl Item for Function {
-    ghost use Rattle.function_language.specs.Reading.{function as function_reader};
+    ghost use Rattle.function_language.specs.steps.Reading.{function as function_reader};
 
     ghost reader = { function_reader };
 
@@ -35,7 +38,7 @@ impl Item for Function {
 }
 
 impl Repeated for Function {
-    ghost use Rattle.function_language.specs.Reading.{begins_function};
+    ghost use Rattle.function_language.specs.steps.Reading.{begins_function};
 
     ghost begun_by = { begins_function };
 
@@ -48,7 +51,7 @@ impl Repeated for Function {
 }
 
 /// Reads a function.
-#[tactic(auto, unfolding(crate::specs::Reading::function))]
+#[tactic(auto, unfolding(crate::specs::steps::Reading::function))]
 fn function(alloc: Global, tokens: &mut Tokens) -> Result<Function, SyntaxFault>
     ensures { Reads (reading.function tokens.old) result tokens.new }
 {
@@ -66,7 +69,7 @@ fn function(alloc: Global, tokens: &mut Tokens) -> Result<Function, SyntaxFault>
 }
 
 /// Reads a map behind the word.
-#[tactic(auto, unfolding(crate::specs::Reading::map_function))]
+#[tactic(auto, unfolding(crate::specs::steps::Reading::map_function))]
 fn map_function(alloc: Global, tokens: &mut Tokens) -> Result<Function, SyntaxFault>
     ensures { Reads (reading.map_function tokens.old) result tokens.new }
 {
@@ -87,7 +90,7 @@ fn map_function(alloc: Global, tokens: &mut Tokens) -> Result<Function, SyntaxFa
 }
 
 /// Reads a reduce behind the word.
-#[tactic(auto, unfolding(crate::specs::Reading::reduce_function))]
+#[tactic(auto, unfolding(crate::specs::steps::Reading::reduce_function))]
 fn reduce_function(alloc: Global, tokens: &mut Tokens) -> Result<Function, SyntaxFault>
     ensures { Reads (reading.reduce_function tokens.old) result tokens.new }
 {
@@ -111,7 +114,7 @@ fn reduce_function(alloc: Global, tokens: &mut Tokens) -> Result<Function, Synta
 }
 
 /// Reads a distance behind the word.
-#[tactic(auto, unfolding(crate::specs::Reading::distance_function))]
+#[tactic(auto, unfolding(crate::specs::steps::Reading::distance_function))]
 fn distance_function(alloc: Global, tokens: &mut Tokens) -> Result<Function, SyntaxFault>
     ensures { Reads (reading.distance_function tokens.old) result tokens.new }
 {
@@ -134,7 +137,7 @@ fn distance_function(alloc: Global, tokens: &mut Tokens) -> Result<Function, Syn
 }
 
 /// Reads a partition behind the word.
-#[tactic(auto, unfolding(crate::specs::Reading::partition_function))]
+#[tactic(auto, unfolding(crate::specs::steps::Reading::partition_function))]
 fn partition_function(alloc: Global, tokens: &mut Tokens) -> Result<Function, SyntaxFault>
     ensures { Reads (reading.partition_function tokens.old) result tokens.new }
 {

@@ -1,5 +1,6 @@
 ghost use Rattle.function_language.specs.Printing.{PrintIsReadAgain};
-ghost use Rattle.function_language.specs.Texts.{FaultIsOfNoTree, IsOfOneTree, only_functions_pieces};
+ghost use Rattle.program_tokens.specs.Texts.{FaultIsOfNoTree, IsOfOneTree};
+ghost use Rattle.function_language.specs.Spelled.{only_functions_pieces};
 
 /// A text is that of one list of functions.
 pub fn a_text_is_of_one_tree()
@@ -11,7 +12,7 @@ pub fn a_fault_is_of_no_tree()
     ensures { FaultIsOfNoTree only_functions_pieces }
 {}
 
-/// The print of functions that a text has is a text of these functions, each in a line of its own.
+/// The print of any functions that can be spelled is a text of these functions, each in a line of its own.
 pub fn what_is_printed_is_read_again()
     ensures { PrintIsReadAgain }
 {}

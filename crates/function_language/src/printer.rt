@@ -1,12 +1,11 @@
 ghost use Rattle.std.specs.Prelude.{◌≡◌, [], ◌∷◌, ◌++◌, false, OnOk};
 ghost use Rattle.std.specs.Fmt.{signed_decimal};
-ghost use Rattle.function_language.specs.Printer.{put};
+ghost use Rattle.function_language.specs.steps.Printer.{put};
 ghost use Rattle.program_tokens.specs.Tokens.{begins_in_word, ends_in_word, escaped};
-ghost use Rattle.program_tokens.specs.Words.{is_word_byte};
 
 use hal_base::{CopyIn, Memory, Text};
 use itoa::Buffer;
-use program_tokens::{Lexeme, append_lexeme};
+use program_tokens::{Lexeme, append_lexeme, is_of_word};
 use std::alloc::Global;
 use std::marker::Model;
 
@@ -21,7 +20,7 @@ pub(crate) struct Printer {
 impl Model for Printer {
     ghost use Rattle.std.specs.Prelude.{◌≡◌};
     ghost use Rattle.std.specs.Coded.{coded×, coded_bool, coded_list, coded_ℕ};
-    ghost use Rattle.function_language.specs.Printer.{Written};
+    ghost use Rattle.function_language.specs.steps.Printer.{Written};
 
     ghost Value = { Written };
 
@@ -50,7 +49,7 @@ impl Printer {
     }
 
     /// Adds a word, a mark or a number, behind a blank where two words would be one.
-    #[tactic(auto, unfolding(crate::specs::Printer::put))]
+    #[tactic(auto, unfolding(crate::specs::steps::Printer::put))]
     pub(crate) fn put(&mut self, spelled: &[u8]) -> Result<(), Memory>
         ensures { OnOk result (self.new ≡ put self.old spelled.now) }
     {
@@ -71,7 +70,7 @@ impl Printer {
     }
 
     /// Adds a text within quotes.
-    #[tactic(auto, unfolding(crate::specs::Printer::put))]
+    #[tactic(auto, unfolding(crate::specs::steps::Printer::put))]
     pub(crate) fn put_text(&mut self, text: &Text) -> Result<(), Memory>
         ensures { OnOk result (self.new ≡ put self.old (34 ∷ escaped text.now ++ 34 ∷ [])) }
     {
@@ -109,11 +108,4 @@ fn ends_in_word(bytes: &[u8]) -> bool
         [.., last] => is_of_word(*last),
         [] => false,
     }
-}
-
-/// Whether words go on with this byte.
-fn is_of_word(byte: u8) -> bool
-    ensures { result ≡ is_word_byte byte }
-{
-    byte.is_ascii_alphanumeric() || byte == b'_'
 }

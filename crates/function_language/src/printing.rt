@@ -1,21 +1,21 @@
 ghost use Rattle.std.specs.Prelude.{◌≡◌, ◌∷◌, List, IfOk, OnOk, false, map};
 ghost use Rattle.std.specs.List.{flat_map};
-ghost use Rattle.function_language.specs.Pieces.{Piece};
-ghost use Rattle.function_language.specs.Printer.{ArePlaces, put_all, put_line};
+ghost use Rattle.program_tokens.specs.Pieces.{Piece};
+ghost use Rattle.function_language.specs.steps.Printer.{ArePlaces, put_all, put_line};
 ghost use Rattle.function_language.specs.Printing.{function_line, tree_text};
-ghost use Rattle.function_language.specs.Spelled as spelled;
-ghost use Rattle.function_language.specs.Spelled.{block_pieces, expr_pieces, function_pieces, kinds_pieces, out_pieces, statement_pieces};
-ghost use Rattle.function_language.specs.SpelledLists.{binding_pieces, call_pieces, for_pieces, if_pieces};
+ghost use Rattle.program_tokens.specs.Pieces.{comma_separated, each_behind_comma};
+ghost use Rattle.function_language.specs.Spelled.{block_pieces, expr_pieces, function_pieces, out_pieces, statement_pieces};
+ghost use Rattle.program_tokens.specs.Pieces.{kinds_pieces};
+ghost use Rattle.function_language.specs.steps.SpelledLists.{binding_pieces, call_pieces, for_pieces, if_pieces};
 ghost use Rattle.function_language.specs.declared.tree.Function.TheVariants as a_function;
 ghost use Rattle.function_language.specs.declared.tree.Statement.TheVariants as a_statement;
 
 use crate::function::DEPTH;
 use crate::printer::Printer;
-use crate::tree::{
-    Block, Expr, Function, Ident, IdentLinks, KindLinks, Param, ParamLinks, Row, Statement, Stream,
-    StreamLinks, Tree,
-};
+use crate::tree::{Block, Expr, Function, Param, Row, Statement, Stream, Tree};
 use hal_base::{Kind, Memory};
+use program_tokens::Ident;
+use sqlite_items::Items;
 use std::alloc::Global;
 
 /// What is printed the same wherever it stands.
@@ -28,7 +28,7 @@ trait Printed {
 
 impl Printed for Ident {
     ghost use Rattle.std.specs.Prelude.{[], ◌∷◌};
-    ghost use Rattle.function_language.specs.Pieces.{name as name_piece};
+    ghost use Rattle.program_tokens.specs.Pieces.{name as name_piece};
 
     ghost pieces = { λ ident. name_piece ident ∷ [] };
 
@@ -38,7 +38,7 @@ impl Printed for Ident {
 }
 
 impl Printed for Kind {
-    ghost use Rattle.function_language.specs.Spelled.{kind_pieces};
+    ghost use Rattle.program_tokens.specs.Pieces.{kind_pieces};
 
     ghost pieces = { kind_pieces };
 
@@ -76,7 +76,7 @@ impl Printed for Stream {
 
 /// Prints items, perhaps none, with commas between.
 fn print_separated<T: Printed>(printer: &mut Printer, items: &[T]) -> Result<(), Memory>
-    ensures { OnOk result (printer.new ≡ put_all printer.old (spelled.separated (map T.pieces items.now))) }
+    ensures { OnOk result (printer.new ≡ put_all printer.old (comma_separated (map T.pieces items.now))) }
 {
     match items {
         [] => Ok(()),
@@ -89,7 +89,7 @@ fn print_separated<T: Printed>(printer: &mut Printer, items: &[T]) -> Result<(),
 
 /// Prints items, each behind a comma.
 fn print_behind_commas<T: Printed>(printer: &mut Printer, items: &[T]) -> Result<(), Memory>
-    ensures { OnOk result (printer.new ≡ put_all printer.old (spelled.each_behind_comma (map T.pieces items.now))) }
+    ensures { OnOk result (printer.new ≡ put_all printer.old (each_behind_comma (map T.pieces items.now))) }
 {
     'items: for item in items {
         printer.put(b",")?;
@@ -100,7 +100,7 @@ fn print_behind_commas<T: Printed>(printer: &mut Printer, items: &[T]) -> Result
 
 /// Prints kinds between parentheses.
 #[tactic(auto, using(crate::proofs::PrintingPlaces::put_both))]
-fn print_kinds(printer: &mut Printer, kinds: &KindLinks) -> Result<(), Memory>
+fn print_kinds(printer: &mut Printer, kinds: &Items<Kind>) -> Result<(), Memory>
     ensures { OnOk result (printer.new ≡ put_all printer.old (kinds_pieces kinds.now)) }
 {
     printer.put(b"(")?;
@@ -141,8 +141,8 @@ fn print_call(printer: &mut Printer, depth: u32, args: &[Expr]) -> Result<(), Me
 /// Prints expressions, perhaps none, with commas between.
 #[cycle(expression)]
 fn print_arguments(printer: &mut Printer, depth: u32, args: &[Expr]) -> Result<(), Memory>
-    requires { ArePlaces (spelled.separated (map (expr_pieces depth) args.now)) }
-    ensures { OnOk result (printer.new ≡ put_all printer.old (spelled.separated (map (expr_pieces depth) args.now))) }
+    requires { ArePlaces (comma_separated (map (expr_pieces depth) args.now)) }
+    ensures { OnOk result (printer.new ≡ put_all printer.old (comma_separated (map (expr_pieces depth) args.now))) }
 {
     match args {
         [] => Ok(()),
@@ -156,8 +156,8 @@ fn print_arguments(printer: &mut Printer, depth: u32, args: &[Expr]) -> Result<(
 /// Prints expressions, each behind a comma.
 #[cycle(expression)]
 fn print_more_arguments(printer: &mut Printer, depth: u32, args: &[Expr]) -> Result<(), Memory>
-    requires { ArePlaces (spelled.each_behind_comma (map (expr_pieces depth) args.now)) }
-    ensures { OnOk result (printer.new ≡ put_all printer.old (spelled.each_behind_comma (map (expr_pieces depth) args.now))) }
+    requires { ArePlaces (each_behind_comma (map (expr_pieces depth) args.now)) }
+    ensures { OnOk result (printer.new ≡ put_all printer.old (each_behind_comma (map (expr_pieces depth) args.now))) }
 {
     'args: for arg in args {
         printer.put(b",")?;
@@ -264,7 +264,7 @@ fn print_if(
 fn print_for(
     printer: &mut Printer,
     depth: u32,
-    names: &IdentLinks,
+    names: &Items<Ident>,
     stream: &Ident,
     body: &Block,
 ) -> Result<(), Memory>
@@ -283,7 +283,7 @@ fn print_for(
 /// Prints an `emit`, whatever its line.
 #[tactic(auto, using(crate::proofs::PrintingPlaces::put_both))]
 fn print_emit(printer: &mut Printer, depth: u32, args: &[Expr]) -> Result<(), Memory>
-    requires { ArePlaces (spelled.separated (map (expr_pieces depth) args.now)) }
+    requires { ArePlaces (comma_separated (map (expr_pieces depth) args.now)) }
     ensures { OnOk result (printer.new ≡ put_all printer.old (statement_pieces depth (a_statement.Emit 0 args.now))) }
 {
     printer.put(b"emit")?;
@@ -343,7 +343,7 @@ fn print_function(printer: &mut Printer, function: &Function) -> Result<(), Memo
 fn print_map(
     printer: &mut Printer,
     name: &Ident,
-    params: &ParamLinks,
+    params: &Items<Param>,
     out: &Row,
     body: &Block,
 ) -> Result<(), Memory>
@@ -364,7 +364,7 @@ fn print_reduce(
     printer: &mut Printer,
     name: &Ident,
     key: &Param,
-    streams: &StreamLinks,
+    streams: &Items<Stream>,
     out: &Row,
     body: &Block,
 ) -> Result<(), Memory>

@@ -1,11 +1,10 @@
 ghost use Rattle.std.specs.Prelude.{IfErr, IfOk};
-ghost use Rattle.function_language.specs.Texts.{IsTextOf, Refuses, only_functions_pieces};
+ghost use Rattle.program_tokens.specs.Texts.{IsTextOf, Refuses};
+ghost use Rattle.function_language.specs.Spelled.{only_functions_pieces};
 
-use crate::fault::SyntaxFault;
 use crate::function::functions;
-use crate::steps::{refused, sees_end};
 use crate::tree::Tree;
-use program_tokens::Tokens;
+use program_tokens::{SyntaxFault, Tokens, refused, sees_end};
 use std::alloc::Global;
 
 /// The functions whose text this is. `At` names the line of the first token such that no functions begin

@@ -1,14 +1,11 @@
 ghost use Rattle.std.specs.Prelude.{◌≡◌};
 ghost use Rattle.function_language.specs.declared.tree.Statement.TheVariants.{Let as a_let, Set as a_set};
-ghost use Rattle.function_language.specs.Parsers.{Reads};
-ghost use Rattle.function_language.specs.Reading as reading;
+ghost use Rattle.program_tokens.specs.steps.Parsers.{Reads};
+ghost use Rattle.function_language.specs.steps.Reading as reading;
 
 use crate::expression::{arguments, expr};
-use crate::fault::SyntaxFault;
-use crate::items::closed;
-use crate::steps::{eat, expect, ident, refused};
 use crate::tree::{Block, Statement};
-use program_tokens::Tokens;
+use program_tokens::{SyntaxFault, Tokens, closed, eat, expect, ident, refused};
 use sqlite_items::Items;
 use std::alloc::Global;
 
@@ -38,7 +35,7 @@ fn statements(alloc: Global, tokens: &mut Tokens, depth: u32) -> Result<Block, S
 
 /// Reads a statement in which so many blocks and calls may open.
 #[cycle(statement)]
-#[tactic(auto, unfolding(crate::specs::Reading::statement_of))]
+#[tactic(auto, unfolding(crate::specs::steps::Reading::statement_of))]
 fn statement(alloc: Global, tokens: &mut Tokens, depth: u32) -> Result<Statement, SyntaxFault>
     ensures { Reads (reading.statement_of (reading.expr depth) (reading.block depth) tokens.old) result tokens.new }
 {
@@ -58,7 +55,7 @@ fn statement(alloc: Global, tokens: &mut Tokens, depth: u32) -> Result<Statement
 }
 
 /// Reads a `let` behind the word.
-#[tactic(auto, unfolding(crate::specs::Reading::binding))]
+#[tactic(auto, unfolding(crate::specs::steps::Reading::binding))]
 fn let_statement(alloc: Global, tokens: &mut Tokens, depth: u32) -> Result<Statement, SyntaxFault>
     ensures { Reads (reading.binding (reading.expr depth) a_let tokens.old) result tokens.new }
 {
@@ -70,7 +67,7 @@ fn let_statement(alloc: Global, tokens: &mut Tokens, depth: u32) -> Result<State
 }
 
 /// Reads a `set` behind the word.
-#[tactic(auto, unfolding(crate::specs::Reading::binding))]
+#[tactic(auto, unfolding(crate::specs::steps::Reading::binding))]
 fn set_statement(alloc: Global, tokens: &mut Tokens, depth: u32) -> Result<Statement, SyntaxFault>
     ensures { Reads (reading.binding (reading.expr depth) a_set tokens.old) result tokens.new }
 {
@@ -83,7 +80,7 @@ fn set_statement(alloc: Global, tokens: &mut Tokens, depth: u32) -> Result<State
 
 /// Reads an `if` behind the word.
 #[cycle(statement)]
-#[tactic(auto, unfolding(crate::specs::Reading::if_statement))]
+#[tactic(auto, unfolding(crate::specs::steps::Reading::if_statement))]
 fn if_statement(alloc: Global, tokens: &mut Tokens, depth: u32) -> Result<Statement, SyntaxFault>
     ensures { Reads (reading.if_statement (reading.expr depth) (reading.block depth) tokens.old) result tokens.new }
 {
@@ -108,7 +105,7 @@ fn if_statement(alloc: Global, tokens: &mut Tokens, depth: u32) -> Result<Statem
 
 /// Reads a `for` behind the word.
 #[cycle(statement)]
-#[tactic(auto, unfolding(crate::specs::Reading::for_statement))]
+#[tactic(auto, unfolding(crate::specs::steps::Reading::for_statement))]
 fn for_statement(alloc: Global, tokens: &mut Tokens, depth: u32) -> Result<Statement, SyntaxFault>
     ensures { Reads (reading.for_statement (reading.block depth) tokens.old) result tokens.new }
 {
@@ -125,7 +122,7 @@ fn for_statement(alloc: Global, tokens: &mut Tokens, depth: u32) -> Result<State
 }
 
 /// Reads an `emit` or a `give`.
-#[tactic(auto, unfolding(crate::specs::Reading::result_statement))]
+#[tactic(auto, unfolding(crate::specs::steps::Reading::result_statement))]
 fn result_statement(
     alloc: Global,
     tokens: &mut Tokens,
@@ -142,7 +139,7 @@ fn result_statement(
 }
 
 /// Reads an `emit` behind the word, which stands in this line.
-#[tactic(auto, unfolding(crate::specs::Reading::emit_statement))]
+#[tactic(auto, unfolding(crate::specs::steps::Reading::emit_statement))]
 fn emit_statement(
     alloc: Global,
     tokens: &mut Tokens,
@@ -158,7 +155,7 @@ fn emit_statement(
 }
 
 /// Reads a `give` behind the word, which stands in this line.
-#[tactic(auto, unfolding(crate::specs::Reading::give_statement))]
+#[tactic(auto, unfolding(crate::specs::steps::Reading::give_statement))]
 fn give_statement(
     alloc: Global,
     tokens: &mut Tokens,

@@ -3,29 +3,14 @@ ghost use Rattle.std.specs.Option.{option_copied};
 ghost use Rattle.function_language.specs.Spelled.{CanBeSpelled};
 
 use hal_base::{Kind, Text};
+use program_tokens::Ident;
 use sqlite_items::Items;
 use std::marker::Model;
-
-/// A name and the line in which it stands.
-#[derive(Drop)]
-pub struct Ident {
-    pub text: Text,
-    pub line: u64,
-}
-
-/// A number and the line in which it stands.
-#[derive(Drop)]
-pub struct Number {
-    pub value: i64,
-    pub line: u64,
-}
-
-pub type KindLinks = Items<Kind>;
 
 /// The kinds of a record, that of the key first.
 #[derive(Drop)]
 pub struct Row {
-    pub kinds: KindLinks,
+    pub kinds: Items<Kind>,
 }
 
 #[derive(Drop)]
@@ -38,14 +23,8 @@ pub struct Param {
 #[derive(Drop)]
 pub struct Stream {
     pub name: Ident,
-    pub kinds: KindLinks,
+    pub kinds: Items<Kind>,
 }
-
-pub type ParamLinks = Items<Param>;
-
-pub type StreamLinks = Items<Stream>;
-
-pub type IdentLinks = Items<Ident>;
 
 /// An expression. A `line` is that of its token. docs/LANGUAGE.md, "Expressions".
 #[cycle(expr)]
@@ -78,7 +57,7 @@ pub enum Statement {
         no: Option<Items<Statement>>,
     },
     For {
-        names: IdentLinks,
+        names: Items<Ident>,
         stream: Ident,
         body: Items<Statement>,
     },
@@ -99,7 +78,7 @@ pub type Block = Items<Statement>;
 pub enum Function {
     Map {
         name: Ident,
-        params: ParamLinks,
+        params: Items<Param>,
         arrow: u64,
         out: Row,
         body: Block,
@@ -107,7 +86,7 @@ pub enum Function {
     Reduce {
         name: Ident,
         key: Param,
-        streams: StreamLinks,
+        streams: Items<Stream>,
         arrow: u64,
         out: Row,
         body: Block,

@@ -15,7 +15,7 @@ use Rattle.hal_base.specs.Sorted.{Ascending}
 use Rattle.hal_base.specs.Sorted.{sorted, distinct}
 use Rattle.plain_job.specs.Job.{has_key, key_of, fields_of, group, keys, job}
 use Rattle.plain_job.proofs.Keys.{all_keys, all_kept}
-use Rattle.group_reduce.specs.Front.{front, rest, least_key_of}
+use Rattle.group_reduce.specs.steps.Front.{front, rest, least_key_of}
 use Rattle.group_reduce.specs.Groups.{groups_of, keyed_groups}
 use Rattle.group_reduce.specs.declared.KeyGroups.{KeyGroups}
 use Rattle.hal_base.proofs.Strict.{or_split, sorted_same, all_distinct, strict_distinct, any_distinct, same_strict}

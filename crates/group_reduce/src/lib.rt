@@ -7,7 +7,7 @@ ghost use Rattle.std.specs.List.{AllByRecursion};
 ghost use Rattle.hal_base.specs.Order.{record_cmp};
 ghost use Rattle.hal_base.specs.Sorted.{Ascending};
 ghost use Rattle.plain_job.specs.Job.{job, fields_of, has_key};
-ghost use Rattle.group_reduce.specs.Front.{front, rest, least_key_of, starts};
+ghost use Rattle.group_reduce.specs.steps.Front.{front, rest, least_key_of, starts};
 ghost use Rattle.group_reduce.specs.Groups.{keyed_groups};
 
 use hal_base::{

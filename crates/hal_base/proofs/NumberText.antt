@@ -9,7 +9,7 @@ use Rattle.std.specs.Str.Parse.{AllDigits, ParsesSigned, digits_value}
 use Rattle.std.proofs.lemmas.Bool.{eqb-false, eqb-true}
 use Rattle.std.proofs.lemmas.Fmt.{decimal_digit, decimal-digits_value, first_decimal, parse-signed_decimal}
 use Rattle.std.proofs.lemmas.Str.Parse.{IsNumeralModel, numerals_by_value, tells_digits, parse_signed_minus, parse_signed_plain}
-use Rattle.hal_base.specs.Numbers.{canonical_front}
+use Rattle.hal_base.specs.steps.Numbers.{canonical_front}
 use Rattle.hal_base.proofs.Spellings.{above}
 
 own : IsNumeralModel (AllDigits 10) (digits_value 10)

@@ -16,7 +16,7 @@ use Rattle.hal_base.specs.declared.table.TableFault.TheVariants as table
 use Rattle.hal_base.specs.Values.{kind_of, IsValue, IsRecordOf}
 use Rattle.hal_base.specs.Lines.{value_text, line_of, StandsFor}
 use Rattle.hal_base.specs.LineFaults.{Spelled, FirstBad, HasFault, pieces_in}
-use Rattle.hal_base.specs.LineReading.{IsRead, AreRead, HasPieceFault, HasFieldFault}
+use Rattle.hal_base.specs.steps.LineReading.{IsRead, AreRead, HasPieceFault, HasFieldFault}
 use Rattle.hal_base.specs.TableFaults.{HasTableFault}
 use Rattle.hal_base.proofs.LineLaws.{first_bad, no_fault, one_record, same_length}
 

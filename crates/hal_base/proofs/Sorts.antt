@@ -1,10 +1,10 @@
 -- What a sort ensures, and the list in order.
-use Rattle.std.proofs.Common.{◌≡◌, ℕ, suc, ◌+◌, ◌<◌, Bool, true, false, cond, List, [], ◌∷◌, refl, sym, ap, ◌∙◌, arith}
+use Rattle.std.proofs.Common.{◌≡◌, ℕ, suc, ◌+◌, ◌<◌, Bool, true, false, cond, List, [], ◌∷◌, ◌++◌, refl, sym, ap, ◌∙◌, map, arith}
 use Rattle.std.specs.declared.cmp.Ordering.{Ordering}
 use Rattle.std.specs.declared.cmp.Ordering.TheVariants.{Less, Equal, Greater}
 use Rattle.std.specs.Ordering.{is_eq, is_gt, is_lt, ordering_reverse, eq_by_cmp}
 use Rattle.std.specs.Cmp.{IsTotalOrder}
-use Rattle.std.specs.List.{AllByRecursion, sum_by}
+use Rattle.std.specs.List.{AllByRecursion, flat_map, sum_by}
 use Rattle.std.specs.List.Sorted.{IsSorted, IsPermutation}
 use Rattle.std.proofs.lemmas.Cmp.{tied_itself, alike_right, upto}
 use Rattle.std.proofs.lemmas.List.Sorted.{sum_by-IsPermutation}
@@ -128,3 +128,28 @@ module _ {K : Type 0} {R : K → K → Ordering} (o : IsTotalOrder R) where
   sort_is_sorted exact xs ys p s =
       same_ascending exact ys (sorted R xs) (ascending ys (neighbours ys s)) (ascending_sorted xs)
       (λ q. times_is q ys ∙ sum_by-IsPermutation (λ x. one (eq_by_cmp R q x)) xs ys p ∙ sym (times_is q xs) ∙ sym (times_sorted q xs))
+
+  -- ---- lists one after another
+
+  times_both : (q : K) (xs ys : List K) → times q (xs ++ ys) ≡ times q xs + times q ys
+  times_both q [] ys = omega arith
+  times_both q (x ∷ xs) ys = omega (arith, times_both q xs ys)
+
+  times_each : (q : K) (xss : List (List K)) → times q (flat_map (λ xs. xs) (map (sorted R) xss)) ≡ times q (flat_map (λ xs. xs) xss)
+  times_each q [] = refl
+  times_each q (xs ∷ xss) =
+      times_both q (sorted R xs) (flat_map (λ ys. ys) (map (sorted R) xss))
+      ∙ omega (arith, times_sorted q xs, times_each q xss)
+      ∙ sym (times_both q xs (flat_map (λ ys. ys) xss))
+
+  -- lists that are sorted beforehand, made one, are in order what the lists are
+  pub sorted_together : CmpEqualImpliesEq R → (xss : List (List K)) → sorted R (flat_map (λ xs. xs) (map (sorted R) xss)) ≡ sorted R (flat_map (λ xs. xs) xss)
+  sorted_together exact xss =
+      same_ascending exact (sorted R (flat_map (λ xs. xs) (map (sorted R) xss))) (sorted R (flat_map (λ xs. xs) xss))
+      (ascending_sorted (flat_map (λ xs. xs) (map (sorted R) xss))) (ascending_sorted (flat_map (λ xs. xs) xss))
+      (λ q. times_sorted q (flat_map (λ xs. xs) (map (sorted R) xss)) ∙ times_each q xss ∙ sym (times_sorted q (flat_map (λ xs. xs) xss)))
+
+  -- what holds of each item holds of each of the list in order
+  pub all_sorted : (P : K → Type 0) (xs : List K) → AllByRecursion P xs → AllByRecursion P (sorted R xs)
+  all_sorted P [] a = tt
+  all_sorted P (x ∷ xs) a = all_placed P x (sorted R xs) a.0 (all_sorted P xs a.1)

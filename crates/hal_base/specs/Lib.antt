@@ -1,12 +1,12 @@
 pub mod Laws
 pub mod LineFaults
-pub mod LineReading
 pub mod Lines
 pub mod Meaning
-pub mod Numbers
 pub mod Order
 pub mod Parts
+pub mod Shapes
 pub mod Sorted
 pub mod TableFaults
 pub mod Text
 pub mod Values
+pub mod steps

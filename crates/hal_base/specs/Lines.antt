@@ -7,7 +7,7 @@ use Rattle.hal_base.specs.declared.value.Value.{Value}
 use Rattle.hal_base.specs.declared.value.Value.TheVariants.{Int, Text}
 use Rattle.hal_base.specs.declared.record.Record.{Record}
 use Rattle.hal_base.specs.declared.fields.Schema.{Schema}
-use Rattle.hal_base.specs.Values.{IsRecordOf}
+use Rattle.hal_base.specs.Values.{IsRecordOf, record_values}
 
 -- a number in digits, with `-` in front where it is negative; a text as it is
 abbrev pub value_text : Value → List ℕ
@@ -16,7 +16,7 @@ value_text (Text bytes) = bytes
 
 -- the pieces of a record's line, the key first
 abbrev pub pieces_of : Record → List (List ℕ)
-pieces_of row = map value_text (row.key ∷ row.fields)
+pieces_of row = map value_text (record_values row)
 
 -- the line of a record, without its end: the pieces, parted by tabs
 abbrev pub line_of : Record → List ℕ

@@ -36,6 +36,7 @@ pub record GoesTooFar (schema : Schema) (bytes : List ℕ) (number : ℕ) : Type
   pub full : length rows ≡ 10000000
   pub place : number ≡ 10000001
 
+-- what is wrong with the file: the first line that is no record of the schema, or that there are too many
 abbrev pub HasTableFault : Schema → List ℕ → TableFault → Type 0
 HasTableFault schema bytes (Line number what) = FirstFault schema bytes number what
 HasTableFault schema bytes (TooMany number) = GoesTooFar schema bytes number

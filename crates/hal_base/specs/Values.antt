@@ -1,5 +1,5 @@
 -- Values, records and their kinds.
-use Rattle.std.specs.Prelude.{◌≡◌, map, FitsSigned}
+use Rattle.std.specs.Prelude.{◌≡◌, List, [], ◌∷◌, ◌++◌, map, FitsSigned}
 use Rattle.std.specs.Int.{w64}
 use Rattle.std.specs.List.{AllByRecursion}
 use Rattle.hal_base.specs.declared.value.Kind.{Kind}
@@ -19,6 +19,22 @@ kind_of (Text _) = kind.Text
 abbrev pub IsValue : Value → Type 0
 IsValue (Int n) = FitsSigned w64 n
 IsValue (Text bytes) = IsText bytes
+
+-- the pieces of a key: a value alone
+abbrev pub key_pieces : Value → List Value
+key_pieces key = key ∷ []
+
+-- the kinds of a key's pieces
+abbrev pub key_kinds : Kind → List Kind
+key_kinds kind = kind ∷ []
+
+-- the values of a record: the pieces of its key, and then its fields
+abbrev pub record_values : Record → List Value
+record_values row = key_pieces row.key ++ row.fields
+
+-- the kinds of a record's values
+abbrev pub schema_kinds : Schema → List Kind
+schema_kinds schema = key_kinds schema.key ++ schema.fields
 
 -- the record has the kinds of the schema, in order
 pub record FitsSchema (schema : Schema) (row : Record) : Type 0 where

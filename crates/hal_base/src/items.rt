@@ -11,6 +11,12 @@ pub trait CopyIn: Sized {
         ensures { IfOk result (λ copied. copied ≡ self.now) };
 }
 
+impl CopyIn for u32 {
+    fn copy(&self, _alloc: Global) -> Result<u32, Memory> {
+        Ok(*self)
+    }
+}
+
 /// A growing list, which contracts see as the list of its items.
 #[derive(Drop)]
 pub struct Items<T> {

@@ -25,7 +25,7 @@ pub use number::{append_number, read_number};
 pub use part::default_part;
 pub use record::{Group, Groups, Parts, Record, Records, Tables, compare_rows, sort_rows};
 pub use shape::{Counts, Origin, Schemas, Shape, Source, Sources, Step, Steps};
-pub use stream::SortedStream;
+pub use stream::{SortedSlice, SortedStream};
 pub use table::{MAX_RECORDS, TableFault, a_table_is_read_from_its_lines, lines, read_table};
 pub use text::Text;
 pub use value::{Kind, Value, compare};

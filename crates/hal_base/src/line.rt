@@ -4,7 +4,7 @@ ghost use Rattle.hal_base.specs.declared.record.Record.{Record as Row};
 ghost use Rattle.hal_base.specs.Values.{IsRecordOf};
 ghost use Rattle.hal_base.specs.Lines.{value_text, line_of};
 ghost use Rattle.hal_base.specs.LineFaults.{pieces_in, HasFault};
-ghost use Rattle.hal_base.specs.LineReading.{IsRead, AreRead, HasPieceFault, HasFieldFault, pieces_left};
+ghost use Rattle.hal_base.specs.steps.LineReading.{IsRead, AreRead, HasPieceFault, HasFieldFault, pieces_left};
 
 use crate::fields::{Fields, Schema};
 use crate::memory::Memory;

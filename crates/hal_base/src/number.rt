@@ -1,7 +1,7 @@
 ghost use Rattle.std.specs.Prelude.{◌≡◌, ◌++◌, decimal, ℤ, OnOk, IfSome, IfNone, IsTrue, ◌↔◌, ◌≢◌, FitsSigned};
 ghost use Rattle.std.specs.Int.{w64};
 ghost use Rattle.std.specs.Fmt.{signed_decimal};
-ghost use Rattle.hal_base.specs.Numbers.{canonical_front};
+ghost use Rattle.hal_base.specs.steps.Numbers.{canonical_front};
 
 use crate::memory::Memory;
 use itoa::Buffer;

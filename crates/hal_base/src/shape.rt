@@ -1,9 +1,11 @@
 use crate::fields::Schema;
-use crate::items::Items;
+use crate::items::{CopyIn, Items};
+use crate::memory::Memory;
+use std::alloc::Global;
 
 /// Where a source of a step takes its records from: the state, the output of the step before, or a
 /// table, which is read in every round or in one round only. Tables count from 0 and rounds from 1.
-#[derive(Drop)]
+#[derive(Clone, Copy)]
 pub enum Origin {
     State,
     Prev,
@@ -19,6 +21,18 @@ pub struct Source {
     pub mapper_input: bool,
 }
 
+impl CopyIn for Source {
+    fn copy(&self, alloc: Global) -> Result<Source, Memory> {
+        let stream = self.stream.copy(alloc)?;
+        Ok(Source {
+            from: self.from,
+            stream,
+            reducer_input: self.reducer_input,
+            mapper_input: self.mapper_input,
+        })
+    }
+}
+
 pub type Sources = Items<Source>;
 
 /// A step of the loop's body, and the schema of what it emits.
@@ -26,6 +40,14 @@ pub type Sources = Items<Source>;
 pub struct Step {
     pub sources: Sources,
     pub out: Schema,
+}
+
+impl CopyIn for Step {
+    fn copy(&self, alloc: Global) -> Result<Step, Memory> {
+        let sources = self.sources.copy(alloc)?;
+        let out = self.out.copy(alloc)?;
+        Ok(Step { sources, out })
+    }
 }
 
 pub type Steps = Items<Step>;

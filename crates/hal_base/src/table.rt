@@ -1,7 +1,7 @@
 ghost use Rattle.std.specs.Prelude.{◌≡◌, ℕ, ◌+◌, ◌<◌, ◌∷◌, [], List, length, IfOk, IfErr, IfNone, IfSome, MatchResult};
 ghost use Rattle.std.specs.Str.Lines.{strip_carriage_return};
 ghost use Rattle.hal_base.specs.declared.record.Record.{Record as Row};
-ghost use Rattle.hal_base.specs.LineReading.{HasNumberedFault};
+ghost use Rattle.hal_base.specs.steps.LineReading.{HasNumberedFault};
 ghost use Rattle.hal_base.specs.Lines.{StandsFor, TextStandsForTable, line_of, lines_in, table_text};
 ghost use Rattle.hal_base.specs.Values.{IsRecordOf};
 ghost use Rattle.hal_base.specs.TableFaults.{HasTableFault};

@@ -4,11 +4,12 @@ use Rattle.hal_outside.specs.declared.faults.FileFault.TheVariants as file
 use Rattle.hal_outside.specs.declared.faults.SinkFault.{SinkFault}
 use Rattle.hal_outside.specs.declared.faults.SinkFault.TheVariants as sink
 
--- p where the fault is a device's
+-- p where the fault of files is a device's
 abbrev pub AtFileDevice : FileFault → Type 0 → Type 0
 AtFileDevice (file.Device _) p = p
 AtFileDevice file.Memory p = Unit {0}
 
+-- the same of a fault of a sink
 abbrev pub AtSinkDevice : SinkFault → Type 0 → Type 0
 AtSinkDevice (sink.Device _) p = p
 AtSinkDevice sink.Memory p = Unit {0}

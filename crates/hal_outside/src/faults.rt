@@ -1,5 +1,6 @@
 ghost use Rattle.std.specs.Prelude.{◌≡◌};
 
+use hal_base::Memory;
 use std::alloc::AllocError;
 use thiserror::Error;
 
@@ -25,6 +26,16 @@ impl From<AllocError> for FileFault {
     ghost from_gives = { λ _ fault. fault ≡ file.Memory };
 
     fn from(_error: AllocError) -> FileFault {
+        FileFault::Memory
+    }
+}
+
+impl From<Memory> for FileFault {
+    ghost use Rattle.hal_outside.specs.declared.faults.FileFault.TheVariants as file;
+
+    ghost from_gives = { λ _ fault. fault ≡ file.Memory };
+
+    fn from(_error: Memory) -> FileFault {
         FileFault::Memory
     }
 }

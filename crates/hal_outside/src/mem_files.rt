@@ -85,10 +85,7 @@ impl Files for MemFiles {
     }
 
     fn write(&mut self, name: &str, bytes: &[u8]) -> Result<(), FileFault> {
-        match add(self.alloc, &mut self.written, name.as_bytes(), bytes) {
-            Ok(()) => Ok(()),
-            Err(Memory) => Err(FileFault::Memory),
-        }
+        Ok(add(self.alloc, &mut self.written, name.as_bytes(), bytes)?)
     }
 }
 

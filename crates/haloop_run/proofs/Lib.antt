@@ -1,6 +1,7 @@
 pub mod CommandLaws
-pub mod InputLaws
+pub mod Outcomes
 pub mod OutputLaws
-pub mod ProgramLaws
+pub mod Stopping
+pub mod Tables
 pub mod TopLaws
 pub mod WordLaws

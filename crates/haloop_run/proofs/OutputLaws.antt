@@ -5,8 +5,9 @@ use Rattle.std.proofs.lemmas.List.{take_more}
 use Rattle.hal_base.specs.declared.record.Record.{Record}
 use Rattle.hal_base.specs.Lines.{table_text}
 use Rattle.hal_outside.specs.Told.{FileMap, AfterFailedWrite}
-use Rattle.haloop_run.specs.Outputs.{OnTold, AreFirstOf, part_name, with_parts}
-use Rattle.haloop_run.specs.Steps.{PartWritten, Written, WrittenPart}
+use Rattle.hal_outside.specs.Calls.{OnTold}
+use Rattle.haloop_run.specs.Outputs.{AreFirstOf, part_name, with_parts}
+use Rattle.haloop_run.specs.steps.Outputs.{PartWritten, Written, WrittenPart}
 
 with_one_more : (out : List ℕ) (p : ℕ) (texts : List (List ℕ)) (text : List ℕ) (files : FileMap) → with_parts out p (texts ++ text ∷ []) files ≡ map.insert (with_parts out p texts files) (part_name out (p + length texts)) text
 with_one_more out p [] text files = ap (λ n. map.insert files (part_name out n) text) (omega arith)

@@ -3,7 +3,7 @@ use Rattle.std.proofs.Common.{◌≡◌, ℕ, ◌<◌, ◌≤◌, List, [], ◌�
 use Rattle.std.specs.Option.{IfSome}
 use Rattle.haloop_run.specs.declared.words.Command.{Command}
 use Rattle.haloop_run.specs.Words.{Asked, AskFor, words_of}
-use Rattle.haloop_run.specs.Texts.{asked_by, IsNamed}
+use Rattle.haloop_run.specs.steps.Words.{asked_by, IsNamed}
 
 pub three : {X : Type 0} (ws : List X) (a b c : X) → 3 ≤ length ws → length ws < 4 → a ≡ get_or ws 0 a → b ≡ get_or ws 1 b → c ≡ get_or ws 2 c → ws ≡ a ∷ b ∷ c ∷ []
 three [] a b c l m e f g = absurd (omega arith)

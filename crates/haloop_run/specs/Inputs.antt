@@ -1,4 +1,4 @@
--- What the files come to, read in order: the program, the schedule where one is asked for, the tables.
+-- What the input of a command comes to: its program, the schedule where one is asked for, and the tables, read in this order.
 use Rattle.std.specs.Prelude.{◌≡◌, ◌≢◌, ℕ, ◌⊎◌, List, [], ◌∷◌, ◌++◌, Option, None, Some, codes}
 use Rattle.std.specs.FinMap as map
 use Rattle.hal_base.specs.declared.fields.Schema.{Schema}
@@ -34,45 +34,71 @@ listed (name ∷ names) (file ∷ files) (schema ∷ schemas) = record { name = 
 abbrev pub tables_of : Whole → List Listed
 tables_of program = listed program.names program.files program.shape.tables
 
--- what the input comes to: it is accepted, or this file is absent, or this is wrong with the program in this line, or the schedule is one that is not built, or this table has a fault
+-- ---- files that are accepted
+
+-- the program's file has the text of this program
+pub record HasProgram (files : FileMap) (asked : Asked) (program : Whole) : Type 0 where
+  pub text : List ℕ
+  pub there : map.get files asked.program ≡ Some text
+  pub is_text : IsTextOfProgram text program
+
+-- the schedule's file, where one is asked for, has the one schedule
+abbrev pub HasSchedule : FileMap → Option (List ℕ) → Type 0
+HasSchedule files None = Unit {0}
+HasSchedule files (Some name) = map.get files name ≡ Some schedule_text
+
+-- the file of a table stands for these records
+pub record HasTable (files : FileMap) (table : Listed) (rows : List Record) : Type 0 where
+  pub bytes : List ℕ
+  pub there : map.get files table.file ≡ Some bytes
+  pub stands : StandsFor table.schema bytes rows
+
+-- the file of each table stands for its records
+abbrev pub HaveTables : FileMap → List Listed → List (List Record) → Type 0
+HaveTables files [] [] = Unit {0}
+HaveTables files [] (rows ∷ more) = ⊥
+HaveTables files (table ∷ tables) [] = ⊥
+HaveTables files (table ∷ tables) (rows ∷ more) = HasTable files table rows × HaveTables files tables more
+
+-- ---- how far the input is read
+
+-- the program is accepted, and the schedule of this name is asked for
+pub record ReachesSchedule (files : FileMap) (asked : Asked) (name : List ℕ) : Type 0 where
+  pub program : Whole
+  pub has_program : HasProgram files asked program
+  pub is_asked : asked.schedule ≡ Some name
+
+-- the program and the schedule are accepted, and so are the tables before this one
+pub record ReachesTable (files : FileMap) (asked : Asked) (table : Listed) : Type 0 where
+  pub program : Whole
+  pub has_program : HasProgram files asked program
+  pub has_schedule : HasSchedule files asked.schedule
+  pub before : List Listed
+  pub behind : List Listed
+  pub in_order : tables_of program ≡ before ++ table ∷ behind
+  pub rows : List (List Record)
+  pub have_tables : HaveTables files before rows
+
+-- the file of this name is read: the program's, the schedule's or a table's, and all before it are accepted
+abbrev pub ReachesFile : FileMap → Asked → List ℕ → Type 0
+ReachesFile files asked name =
+    (name ≡ asked.program) ⊎ ReachesSchedule files asked name ⊎ ((table : Listed) × ReachesTable files asked table × (name ≡ table.file))
+
+-- ---- what it comes to
+
+-- the input is complete, or this file is absent, or this is wrong with the program in this line, or the schedule is one that is not built, or this table has a fault
 pub data Outcome : Type 0 where
-  accepted : Whole → List (List Record) → Outcome
+  complete : Whole → List (List Record) → Outcome
   absent : List ℕ → Outcome
   bad_program : ℕ → What → Outcome
   not_built : Outcome
   bad_table : List ℕ → TableFault → Outcome
 
--- the file of a table, if it is there, stands for records of its schema, and then it is as the rest says, or it has a fault
-abbrev pub TableComesTo : (List Record → Type 0) → Listed → Option (List ℕ) → Outcome → Type 0
-TableComesTo rest table None it = it ≡ absent table.file
-TableComesTo rest table (Some bytes) it =
-    ((rows : List Record) × StandsFor table.schema bytes rows × rest rows)
-    ⊎ ((what : TableFault) × HasTableFault table.schema bytes what × (what ≢ fault.Memory) × (it ≡ bad_table table.name what))
-
--- the tables from here on, where those before are accepted
-abbrev pub TablesComeTo : FileMap → Whole → List Listed → List (List Record) → Outcome → Type 0
-TablesComeTo files program [] before it = it ≡ accepted program before
-TablesComeTo files program (table ∷ tables) before it =
-    TableComesTo (λ rows. TablesComeTo files program tables (before ++ rows ∷ []) it) table (map.get files table.file) it
-
--- the schedule's file, if it is there, has the one schedule, and then it is as the rest says
-abbrev pub ScheduleComesTo : Type 0 → List ℕ → Option (List ℕ) → Outcome → Type 0
-ScheduleComesTo rest name None it = it ≡ absent name
-ScheduleComesTo rest name (Some text) it = ((text ≡ schedule_text) × rest) ⊎ ((text ≢ schedule_text) × (it ≡ not_built))
-
--- the schedule, where one is asked for
-abbrev pub AskedScheduleComesTo : Type 0 → FileMap → Option (List ℕ) → Outcome → Type 0
-AskedScheduleComesTo rest files None it = rest
-AskedScheduleComesTo rest files (Some name) it = ScheduleComesTo rest name (map.get files name) it
-
--- the program's file, if it is there, has the text of a program in which no fault is found, and then it is as the rest says, or this is wrong with it
-abbrev pub ProgramComesTo : (Whole → Type 0) → List ℕ → Option (List ℕ) → Outcome → Type 0
-ProgramComesTo rest name None it = it ≡ absent name
-ProgramComesTo rest name (Some text) it =
-    ((program : Whole) × IsTextOfProgram text program × rest program)
-    ⊎ ((line : ℕ) × (what : What) × HasWrong text line what × (it ≡ bad_program line what))
-
--- what the input comes to
+-- what the input comes to: all of it is accepted, or all before the first file that is not
 abbrev pub ComesTo : FileMap → Asked → Outcome → Type 0
-ComesTo files asked it =
-    ProgramComesTo (λ program. AskedScheduleComesTo (TablesComeTo files program (tables_of program) [] it) files asked.schedule it) asked.program (map.get files asked.program) it
+ComesTo files asked (complete program tables) = HasProgram files asked program × HasSchedule files asked.schedule × HaveTables files (tables_of program) tables
+ComesTo files asked (absent name) = ReachesFile files asked name × (map.get files name ≡ None)
+ComesTo files asked (bad_program line what) = (text : List ℕ) × (map.get files asked.program ≡ Some text) × HasWrong text line what
+ComesTo files asked not_built = (name : List ℕ) × ReachesSchedule files asked name × (text : List ℕ) × (map.get files name ≡ Some text) × (text ≢ schedule_text)
+ComesTo files asked (bad_table name what) =
+    (table : Listed) × ReachesTable files asked table × (name ≡ table.name) × (bytes : List ℕ) × (map.get files table.file ≡ Some bytes) × HasTableFault table.schema bytes what × (what ≢ fault.Memory)

@@ -1,7 +1,7 @@
 pub mod Inputs
+pub mod Lines
 pub mod Meanings
 pub mod Outputs
 pub mod Statuses
-pub mod Steps
-pub mod Texts
 pub mod Words
+pub mod steps

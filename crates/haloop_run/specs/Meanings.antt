@@ -1,6 +1,6 @@
 -- What the functions of a program mean.
 use Rattle.hal_base.specs.Meaning.{Meaning}
-use Rattle.function_eval.specs.Meanings as functions
+use Rattle.function_meaning.specs.Meanings as functions
 use Rattle.loop_program.specs.Whole.{Whole}
 
 -- what the functions that a program uses mean, over its parts

@@ -1,6 +1,8 @@
 -- The words of a command.
-use Rattle.std.specs.Prelude.{◌≡◌, ◌≢◌, ℕ, List, [], ◌∷◌, Option, None, Some, codes}
+use Rattle.std.specs.Prelude.{◌≡◌, ◌≢◌, ℕ, List, [], ◌∷◌, map, Option, None, Some, codes, string_bytes}
 use Rattle.std.specs.Option.{IfSome}
+use Rattle.std.specs.declared.string.String.{String}
+use Rattle.std.specs.declared.alloc.Global.{Global}
 
 -- what is asked: the names of the program's file, of the schedule's file for `run` and of none for `plain`, and of the folder for the part files
 pub record Asked : Type 0 where
@@ -23,3 +25,7 @@ pub record AskFor (words : List (List ℕ)) (asked : Asked) : Type 0 where
 -- the words are those of no command
 abbrev pub IsUsage : List (List ℕ) → Type 0
 IsUsage words = (asked : Asked) → AskFor words asked → ⊥
+
+-- the bytes of each word
+abbrev pub texts : List (String Global) → List (List ℕ)
+texts words = map (λ word. string_bytes word) words

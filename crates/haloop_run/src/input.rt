@@ -1,19 +1,18 @@
-ghost use Rattle.std.specs.Prelude.{◌≡◌, ◌≤◌, [], None, Some, IfOk, IfErr, IfSome, OnOk};
+ghost use Rattle.std.specs.Prelude.{◌≡◌, Some, IfOk, IfErr, OnOk};
 ghost use Rattle.std.specs.Option.{option_copied};
-ghost use Rattle.std.specs.FinMap as map;
-ghost use Rattle.hal_base.specs.Lines.{StandsFor};
-ghost use Rattle.hal_outside.specs.Told.{Rose};
-ghost use Rattle.loop_program.specs.Programs.{IsJustProgram};
-ghost use Rattle.haloop_run.specs.Inputs as inputs;
-ghost use Rattle.haloop_run.specs.Inputs.{ComesTo, TablesComeTo, tables_of};
-ghost use Rattle.haloop_run.specs.Steps.{AbsentOf, BadTableOf, BytesRefused, HasProgram, HasRows, HasSchedule, Judged, NoProgram, NoRows, NoSchedule, OtherSchedule, Refused, TextRefused};
-ghost use Rattle.haloop_run.specs.Texts.{asked_by};
+ghost use Rattle.hal_outside.specs.Told.{FileMap};
+ghost use Rattle.hal_outside.specs.Calls.{OnlyReads, Tells};
+ghost use Rattle.plain_job.specs.Fit.{AreRecordsOf, TablesFit};
+ghost use Rattle.haloop_run.specs.declared.fault.InputFault.TheVariants as fault;
+ghost use Rattle.haloop_run.specs.Inputs.{complete, HasSchedule, HasTable, HaveTables, tables_of};
+ghost use Rattle.haloop_run.specs.steps.Inputs.{HasFile, IsProgramOf, Judged, listing, NoFile, NoProgram, NoSchedule, NoTable, OtherSchedule, Stops, StopsAtTable};
+ghost use Rattle.haloop_run.specs.steps.Words.{asked_by};
 
-use crate::refusal::Refusal;
+use crate::fault::{CommandFault, InputFault};
 use crate::words::Command;
 use hal_base::{CopyIn, Items, Memory, Records, Schema, TableFault, Tables, Text, read_table};
 use hal_outside::{FileFault, Files};
-use loop_program::{Program, ProgramFault, read_program};
+use loop_program::{Program, read_program};
 use std::alloc::Global;
 
 /// A program, and the records of each of its tables.
@@ -29,14 +28,11 @@ pub(crate) fn accepted_input<F: Files>(
     alloc: Global,
     command: &Command<'_>,
     files: &mut F,
-) -> Result<Accepted, Refusal>
-    ensures faults_stay { F.faults files.old ≤ F.faults files.new }
-    ensures absents_stay { F.absents files.old ≤ F.absents files.new }
-    ensures kept { F.told files.new ≡ F.told files.old }
-    ensures found { IfOk result (λ input. IfSome (F.told files.old) (λ told. Judged (ComesTo told (asked_by command.now)) (inputs.accepted input.program input.tables))) }
-    ensures refused { IfErr result (λ refusal. Refused refusal
-        (λ it. IfSome (F.told files.old) (λ told. Judged (ComesTo told (asked_by command.now)) it))
-        (Rose (F.faults files.old) (F.faults files.new)) (Rose (F.absents files.old) (F.absents files.new))) }
+) -> Result<Accepted, CommandFault>
+    ensures reads { OnlyReads F.Files files.old files.new }
+    ensures fit { IfOk result (λ input. TablesFit input.program.shape input.tables) }
+    ensures found { IfOk result (λ input. (told : FileMap) → Tells F.Files files.old told → Judged (asked_by command.now) told (complete input.program input.tables)) }
+    ensures stops { IfErr result (Stops F.Files files.old files.new (Judged (asked_by command.now))) }
 {
     let program = program_file(alloc, command.program, files)?;
     read_schedule(alloc, command.schedule, files)?;
@@ -45,40 +41,24 @@ pub(crate) fn accepted_input<F: Files>(
 }
 
 /// The program whose text the file of this name has.
-fn program_file<F: Files>(alloc: Global, name: &str, files: &mut F) -> Result<Program, Refusal>
-    ensures faults_stay { F.faults files.old ≤ F.faults files.new }
-    ensures absents_stay { F.absents files.old ≤ F.absents files.new }
-    ensures kept { F.told files.new ≡ F.told files.old }
-    ensures found { IfOk result (λ program. IfSome (F.told files.old) (λ told. HasProgram told name.now program)) }
-    ensures refused { IfErr result (λ refusal. Refused refusal
-        (λ it. IfSome (F.told files.old) (λ told. NoProgram told name.now it))
-        (Rose (F.faults files.old) (F.faults files.new)) (Rose (F.absents files.old) (F.absents files.new))) }
+fn program_file<F: Files>(alloc: Global, name: &str, files: &mut F) -> Result<Program, CommandFault>
+    ensures reads { OnlyReads F.Files files.old files.new }
+    ensures found { IfOk result (λ program. (told : FileMap) → Tells F.Files files.old told → IsProgramOf name.now program told) }
+    ensures stops { IfErr result (Stops F.Files files.old files.new (NoProgram name.now)) }
 {
     let text = read_file(alloc, name, files)?;
-    program_in(alloc, text.as_slice())
-}
-
-/// The program of this text.
-fn program_in(alloc: Global, text: &[u8]) -> Result<Program, Refusal>
-    ensures found { IfOk result (IsJustProgram text.now) }
-    ensures refused { IfErr result (λ refusal. TextRefused refusal text.now) }
-{
-    match read_program(alloc, text) {
-        Ok(program) => Ok(program),
-        Err(ProgramFault::At { line, what }) => Err(Refusal::BadProgram { line, what }),
-        Err(ProgramFault::Memory) => Err(Refusal::Memory),
-    }
+    Ok(read_program(alloc, text.as_slice())?)
 }
 
 /// Whether the schedule that is asked for is the one that is built.
-fn read_schedule<F: Files>(alloc: Global, asked: Option<&str>, files: &mut F) -> Result<(), Refusal>
-    ensures faults_stay { F.faults files.old ≤ F.faults files.new }
-    ensures absents_stay { F.absents files.old ≤ F.absents files.new }
-    ensures kept { F.told files.new ≡ F.told files.old }
-    ensures found { OnOk result (IfSome (F.told files.old) (λ told. HasSchedule told (option_copied asked.entry))) }
-    ensures refused { IfErr result (λ refusal. Refused refusal
-        (λ it. IfSome (F.told files.old) (λ told. NoSchedule told (option_copied asked.entry) it))
-        (Rose (F.faults files.old) (F.faults files.new)) (Rose (F.absents files.old) (F.absents files.new))) }
+fn read_schedule<F: Files>(
+    alloc: Global,
+    asked: Option<&str>,
+    files: &mut F,
+) -> Result<(), CommandFault>
+    ensures reads { OnlyReads F.Files files.old files.new }
+    ensures found { OnOk result ((told : FileMap) → Tells F.Files files.old told → HasSchedule told (option_copied asked.entry)) }
+    ensures stops { IfErr result (Stops F.Files files.old files.new (NoSchedule (option_copied asked.entry))) }
 {
     match asked {
         Some(name) => judge_schedule(alloc, name, files),
@@ -86,49 +66,36 @@ fn read_schedule<F: Files>(alloc: Global, asked: Option<&str>, files: &mut F) ->
     }
 }
 
-fn judge_schedule<F: Files>(alloc: Global, name: &str, files: &mut F) -> Result<(), Refusal>
-    ensures faults_stay { F.faults files.old ≤ F.faults files.new }
-    ensures absents_stay { F.absents files.old ≤ F.absents files.new }
-    ensures kept { F.told files.new ≡ F.told files.old }
-    ensures found { OnOk result (IfSome (F.told files.old) (λ told. HasSchedule told (Some name.now))) }
-    ensures refused { IfErr result (λ refusal. Refused refusal
-        (λ it. IfSome (F.told files.old) (λ told. OtherSchedule told name.now it))
-        (Rose (F.faults files.old) (F.faults files.new)) (Rose (F.absents files.old) (F.absents files.new))) }
+fn judge_schedule<F: Files>(alloc: Global, name: &str, files: &mut F) -> Result<(), CommandFault>
+    ensures reads { OnlyReads F.Files files.old files.new }
+    ensures found { OnOk result ((told : FileMap) → Tells F.Files files.old told → HasSchedule told (Some name.now)) }
+    ensures stops { IfErr result (Stops F.Files files.old files.new (OtherSchedule name.now)) }
 {
     let text = read_file(alloc, name, files)?;
     if text.as_slice() == b"nodes 1\n".as_slice() {
         Ok(())
     } else {
-        Err(Refusal::NotBuilt)
+        Err(CommandFault::Refused(InputFault::NotBuilt))
     }
 }
 
 /// The records of each table, in the order of the program.
-fn read_tables<F: Files>(alloc: Global, program: &Program, files: &mut F) -> Result<Tables, Refusal>
-    ensures faults_stay { F.faults files.old ≤ F.faults files.new }
-    ensures absents_stay { F.absents files.old ≤ F.absents files.new }
-    ensures kept { F.told files.new ≡ F.told files.old }
-    ensures found { IfOk result (λ tables. IfSome (F.told files.old) (λ told. Judged (TablesComeTo told program.now (tables_of program.now) []) (inputs.accepted program.now tables))) }
-    ensures refused { IfErr result (λ refusal. Refused refusal
-        (λ it. IfSome (F.told files.old) (λ told. Judged (TablesComeTo told program.now (tables_of program.now) []) it))
-        (Rose (F.faults files.old) (F.faults files.new)) (Rose (F.absents files.old) (F.absents files.new))) }
+fn read_tables<F: Files>(
+    alloc: Global,
+    program: &Program,
+    files: &mut F,
+) -> Result<Tables, CommandFault>
+    ensures reads { OnlyReads F.Files files.old files.new }
+    ensures fit { IfOk result (TablesFit program.now.shape) }
+    ensures found { IfOk result (λ tables. (told : FileMap) → Tells F.Files files.old told → HaveTables told (tables_of program.now) tables) }
+    ensures stops { IfErr result (Stops F.Files files.old files.new (StopsAtTable program.now)) }
 {
+    let names = program.names.as_slice();
+    let paths = program.files.as_slice();
     let mut tables = Tables::new(alloc);
-    let mut names = program.names.as_slice();
-    let mut paths = program.files.as_slice();
-    let mut schemas = program.shape.tables.as_slice();
-    'tables: while let [name, more_names @ ..] = names {
-        let [path, more_paths @ ..] = paths else {
-            break;
-        };
-        let [schema, more_schemas @ ..] = schemas else {
-            break;
-        };
-        let rows = read_rows(alloc, name, path, schema, files)?;
+    'tables: for (at, schema) in program.shape.tables.as_slice().iter().enumerate() {
+        let rows = read_rows(alloc, &names[at], &paths[at], schema, files)?;
         tables.push(rows)?;
-        names = more_names;
-        paths = more_paths;
-        schemas = more_schemas;
     }
     Ok(tables)
 }
@@ -140,63 +107,42 @@ fn read_rows<F: Files>(
     file: &Text,
     schema: &Schema,
     files: &mut F,
-) -> Result<Records, Refusal>
-    ensures faults_stay { F.faults files.old ≤ F.faults files.new }
-    ensures absents_stay { F.absents files.old ≤ F.absents files.new }
-    ensures kept { F.told files.new ≡ F.told files.old }
-    ensures found { IfOk result (λ rows. IfSome (F.told files.old) (λ told. HasRows told file.now schema.now rows)) }
-    ensures refused { IfErr result (λ refusal. Refused refusal
-        (λ it. IfSome (F.told files.old) (λ told. NoRows told name.now file.now schema.now it))
-        (Rose (F.faults files.old) (F.faults files.new)) (Rose (F.absents files.old) (F.absents files.new))) }
+) -> Result<Records, CommandFault>
+    ensures reads { OnlyReads F.Files files.old files.new }
+    ensures fit { IfOk result (AreRecordsOf schema.now) }
+    ensures found { IfOk result (λ rows. (told : FileMap) → Tells F.Files files.old told → HasTable told (listing name.now file.now schema.now) rows) }
+    ensures stops { IfErr result (Stops F.Files files.old files.new (NoTable (listing name.now file.now schema.now))) }
 {
     let bytes = read_file(alloc, file.as_str(), files)?;
-    rows_of(alloc, name, schema, bytes.as_slice())
-}
-
-/// The records of this schema that the bytes of a table's file stand for.
-fn rows_of(alloc: Global, name: &Text, schema: &Schema, bytes: &[u8]) -> Result<Records, Refusal>
-    ensures found { IfOk result (StandsFor schema.now bytes.now) }
-    ensures refused { IfErr result (λ refusal. BytesRefused refusal name.now schema.now bytes.now) }
-{
-    match read_table(alloc, bytes, schema) {
+    match read_table(alloc, bytes.as_slice(), schema) {
         Ok(rows) => Ok(rows),
-        Err(TableFault::Memory) => Err(Refusal::Memory),
-        Err(what) => Err(bad_table(alloc, name, what)),
+        Err(TableFault::Memory) => Err(CommandFault::Failed(FileFault::Memory)),
+        Err(what) => Err(CommandFault::Refused(bad_table(alloc, name, what)?)),
     }
 }
 
-fn bad_table(alloc: Global, name: &Text, what: TableFault) -> Refusal
-    ensures { BadTableOf name.now what result }
+fn bad_table(alloc: Global, name: &Text, what: TableFault) -> Result<InputFault, Memory>
+    ensures { IfOk result (λ it. it ≡ fault.BadTable name.now what) }
 {
-    match name.copy(alloc) {
-        Ok(name) => Refusal::BadTable { name, what },
-        Err(Memory) => Refusal::Memory,
-    }
+    let name = name.copy(alloc)?;
+    Ok(InputFault::BadTable { name, what })
 }
 
 /// The bytes of a file.
-fn read_file<F: Files>(alloc: Global, name: &str, files: &mut F) -> Result<Vec<u8>, Refusal>
-    ensures faults_stay { F.faults files.old ≤ F.faults files.new }
-    ensures absents_stay { F.absents files.old ≤ F.absents files.new }
-    ensures kept { F.told files.new ≡ F.told files.old }
-    ensures found { IfOk result (λ bytes. IfSome (F.told files.old) (λ told. map.get told name.now ≡ Some bytes.items)) }
-    ensures refused { IfErr result (λ refusal. Refused refusal
-        (λ it. (it ≡ inputs.absent name.now) × IfSome (F.told files.old) (λ told. map.get told name.now ≡ None))
-        (Rose (F.faults files.old) (F.faults files.new)) (Rose (F.absents files.old) (F.absents files.new))) }
+fn read_file<F: Files>(alloc: Global, name: &str, files: &mut F) -> Result<Vec<u8>, CommandFault>
+    ensures reads { OnlyReads F.Files files.old files.new }
+    ensures found { IfOk result (λ bytes. (told : FileMap) → Tells F.Files files.old told → HasFile name.now bytes.items told) }
+    ensures stops { IfErr result (Stops F.Files files.old files.new (NoFile name.now)) }
 {
-    match files.read(alloc, name) {
-        Ok(Some(bytes)) => Ok(bytes),
-        Ok(None) => Err(absent(alloc, name)),
-        Err(FileFault::Device(_)) => Err(Refusal::Device),
-        Err(FileFault::Memory) => Err(Refusal::Memory),
+    match files.read(alloc, name)? {
+        Some(bytes) => Ok(bytes),
+        None => Err(CommandFault::Refused(absent(alloc, name)?)),
     }
 }
 
-fn absent(alloc: Global, name: &str) -> Refusal
-    ensures { AbsentOf name.now result }
+fn absent(alloc: Global, name: &str) -> Result<InputFault, Memory>
+    ensures { IfOk result (λ it. it ≡ fault.Absent name.now) }
 {
-    match Vec::from_slice(alloc, name.as_bytes()) {
-        Ok(name) => Refusal::Absent(Items::from_vec(name)),
-        Err(_) => Refusal::Memory,
-    }
+    let name = Vec::from_slice(alloc, name.as_bytes())?;
+    Ok(InputFault::Absent(Items::from_vec(name)))
 }

@@ -2,13 +2,14 @@
 #![tactic(auto)]
 
 mod chain;
+mod fault;
 mod input;
 mod lines;
 mod output;
-mod refusal;
 mod run;
 mod top;
 mod words;
 
 pub use chain::plain;
+pub use plain_job::{End, PlainResult};
 pub use top::haloop_top;

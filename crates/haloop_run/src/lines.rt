@@ -1,8 +1,10 @@
 ghost use Rattle.std.specs.Prelude.{◌≡◌, ◌++◌, codes, IfOk, OnOk};
-ghost use Rattle.plain_job.specs.Ends.{ending_text};
-ghost use Rattle.plain_job.specs.Plain.{ending_of};
-ghost use Rattle.haloop_run.specs.Outputs as outputs;
+ghost use Rattle.plain_job.specs.Ends.{end_text};
+ghost use Rattle.haloop_run.specs.Lines as lines;
+ghost use Rattle.haloop_run.specs.Lines.{outcome_line, status_of};
+ghost use Rattle.haloop_run.specs.steps.Inputs.{outcome_of};
 
+use crate::fault::InputFault;
 use hal_base::{LineFault, Memory, TableFault, append_number};
 use loop_program::What;
 use plain_job::End;
@@ -10,7 +12,7 @@ use std::alloc::Global;
 
 /// The lines of a command that is done. docs/FORMATS.md, "Statuses".
 pub(crate) fn report(alloc: Global, rounds: u32, end: End) -> Result<Vec<u8>, Memory>
-    ensures { IfOk result (λ text. text.items ≡ outputs.report rounds (ending_of end)) }
+    ensures { IfOk result (λ text. text.items ≡ lines.report rounds end) }
 {
     let mut text = Vec::new(alloc);
     append_number(&mut text, b"rounds ", u64::from(rounds))?;
@@ -21,7 +23,7 @@ pub(crate) fn report(alloc: Global, rounds: u32, end: End) -> Result<Vec<u8>, Me
 }
 
 fn end_word(end: End) -> &'static [u8]
-    ensures { result.now ≡ ending_text (ending_of end) }
+    ensures { result.now ≡ end_text end }
 {
     match end {
         End::Fixpoint => b"fixpoint",
@@ -30,8 +32,32 @@ fn end_word(end: End) -> &'static [u8]
     }
 }
 
-pub(crate) fn absent_line(alloc: Global, name: &[u8]) -> Result<Vec<u8>, Memory>
-    ensures { IfOk result (λ line. line.items ≡ outputs.absent_line name.now) }
+/// The line of what is wrong with an input. docs/FORMATS.md, "Statuses".
+pub(crate) fn fault_line(alloc: Global, fault: &InputFault) -> Result<Vec<u8>, Memory>
+    ensures { IfOk result (λ line. line.items ≡ outcome_line (outcome_of fault.now)) }
+{
+    match fault {
+        InputFault::Absent(name) => absent_line(alloc, name.as_slice()),
+        InputFault::BadProgram { line, what } => program_line(alloc, *line, *what),
+        InputFault::NotBuilt => not_built_line(alloc),
+        InputFault::BadTable { name, what } => table_line(alloc, name.as_slice(), *what),
+    }
+}
+
+/// The status of what is wrong with an input.
+pub(crate) fn fault_status(fault: &InputFault) -> u8
+    ensures { result ≡ status_of (outcome_of fault.now) }
+{
+    match fault {
+        InputFault::Absent(_) => 11,
+        InputFault::BadProgram { .. } => 2,
+        InputFault::NotBuilt => 12,
+        InputFault::BadTable { .. } => 3,
+    }
+}
+
+fn absent_line(alloc: Global, name: &[u8]) -> Result<Vec<u8>, Memory>
+    ensures { IfOk result (λ line. line.items ≡ lines.absent_line name.now) }
 {
     let mut line = Vec::from_slice(alloc, b"error: file ")?;
     line.extend_from_slice(name)?;
@@ -39,8 +65,8 @@ pub(crate) fn absent_line(alloc: Global, name: &[u8]) -> Result<Vec<u8>, Memory>
     Ok(line)
 }
 
-pub(crate) fn program_line(alloc: Global, line: u64, what: What) -> Result<Vec<u8>, Memory>
-    ensures { IfOk result (λ text. text.items ≡ outputs.program_line line what) }
+fn program_line(alloc: Global, line: u64, what: What) -> Result<Vec<u8>, Memory>
+    ensures { IfOk result (λ text. text.items ≡ lines.program_line line what) }
 {
     let mut text = Vec::new(alloc);
     append_number(&mut text, b"error: program line ", line)?;
@@ -51,7 +77,7 @@ pub(crate) fn program_line(alloc: Global, line: u64, what: What) -> Result<Vec<u
 }
 
 fn what_word(what: What) -> &'static [u8]
-    ensures { result.now ≡ outputs.what_text what }
+    ensures { result.now ≡ lines.what_text what }
 {
     match what {
         What::Syntax => b"syntax",
@@ -67,8 +93,14 @@ fn what_word(what: What) -> &'static [u8]
     }
 }
 
-pub(crate) fn table_line(alloc: Global, name: &[u8], what: TableFault) -> Result<Vec<u8>, Memory>
-    ensures { IfOk result (λ line. line.items ≡ outputs.table_line name.now what) }
+fn not_built_line(alloc: Global) -> Result<Vec<u8>, Memory>
+    ensures { IfOk result (λ line. line.items ≡ lines.not_built_line) }
+{
+    Ok(Vec::from_slice(alloc, b"error: form not built\n")?)
+}
+
+fn table_line(alloc: Global, name: &[u8], what: TableFault) -> Result<Vec<u8>, Memory>
+    ensures { IfOk result (λ line. line.items ≡ lines.table_line name.now what) }
 {
     let mut line = Vec::from_slice(alloc, b"error: table ")?;
     line.extend_from_slice(name)?;
@@ -78,7 +110,7 @@ pub(crate) fn table_line(alloc: Global, name: &[u8], what: TableFault) -> Result
 }
 
 fn push_table_fault(line: &mut Vec<u8>, what: TableFault) -> Result<(), Memory>
-    ensures { OnOk result (line.new.items ≡ line.old.items ++ (codes " line " ++ outputs.table_fault_text what)) }
+    ensures { OnOk result (line.new.items ≡ line.old.items ++ (codes " line " ++ lines.table_fault_text what)) }
 {
     match what {
         TableFault::Line { line: number, what } => {
@@ -95,7 +127,7 @@ fn push_table_fault(line: &mut Vec<u8>, what: TableFault) -> Result<(), Memory>
 }
 
 fn push_line_fault(line: &mut Vec<u8>, what: LineFault) -> Result<(), Memory>
-    ensures { OnOk result (line.new.items ≡ line.old.items ++ outputs.line_fault_text what) }
+    ensures { OnOk result (line.new.items ≡ line.old.items ++ lines.line_fault_text what) }
 {
     match what {
         LineFault::FieldCount => Ok(line.extend_from_slice(b"field-count")?),

@@ -1,11 +1,11 @@
-ghost use Rattle.std.specs.Prelude.{◌≡◌, ◌≤◌, ◌<◌, ◌++◌, ◌∷◌, [], IfOk, IfErr, OnOk, OnErr, string_bytes};
+ghost use Rattle.std.specs.Prelude.{◌≡◌, ◌++◌, ◌∷◌, [], IfOk, IfErr, OnOk, OnErr, string_bytes};
 ghost use Rattle.hal_base.specs.Lines.{table_text};
-ghost use Rattle.hal_outside.specs.Told.{AfterFailedWrite, Rose};
+ghost use Rattle.hal_outside.specs.Told.{AfterFailedWrite};
+ghost use Rattle.hal_outside.specs.Faults.{AtFileDevice};
+ghost use Rattle.hal_outside.specs.Calls.{Changes, CountsStay, FaultsRose};
 ghost use Rattle.haloop_run.specs.Outputs as outputs;
-ghost use Rattle.haloop_run.specs.Outputs.{OnTold};
-ghost use Rattle.haloop_run.specs.Steps.{PartWritten, WriteRefused, Written, WrittenPart};
+ghost use Rattle.haloop_run.specs.steps.Outputs.{PartWritten, Written, WrittenPart};
 
-use crate::refusal::Refusal;
 use hal_base::{Memory, Parts, Records, lines};
 use hal_outside::{FileFault, Files};
 use std::alloc::Global;
@@ -16,12 +16,11 @@ pub(crate) fn write_parts<F: Files>(
     out: &str,
     parts: &Parts,
     files: &mut F,
-) -> Result<(), Refusal>
-    ensures faults_stay { F.faults files.old ≤ F.faults files.new }
-    ensures absents_stay { F.absents files.old ≤ F.absents files.new }
-    ensures written { OnOk result (OnTold (Written out.now parts.now) (F.told files.old) (F.told files.new)) }
-    ensures refused { IfErr result (λ refusal. WriteRefused refusal (Rose (F.faults files.old) (F.faults files.new))) }
-    ensures partly { OnErr result (OnTold (WrittenPart out.now parts.now) (F.told files.old) (F.told files.new)) }
+) -> Result<(), FileFault>
+    ensures counts { CountsStay F.Files files.old files.new }
+    ensures written { OnOk result (Changes F.Files (Written out.now parts.now) files.old files.new) }
+    ensures device { IfErr result (λ fault. AtFileDevice fault (FaultsRose F.Files files.old files.new)) }
+    ensures partly { OnErr result (Changes F.Files (WrittenPart out.now parts.now) files.old files.new) }
 {
     'parts: for (number, rows) in parts.as_slice().iter().enumerate() {
         write_part(alloc, out, number, rows, files)?;
@@ -35,20 +34,15 @@ fn write_part<F: Files>(
     number: usize,
     rows: &Records,
     files: &mut F,
-) -> Result<(), Refusal>
-    ensures faults_stay { F.faults files.old ≤ F.faults files.new }
-    ensures absents_stay { F.absents files.old ≤ F.absents files.new }
-    ensures written { OnOk result (OnTold (PartWritten out.now number rows.now) (F.told files.old) (F.told files.new)) }
-    ensures refused { IfErr result (λ refusal. WriteRefused refusal (Rose (F.faults files.old) (F.faults files.new))) }
+) -> Result<(), FileFault>
+    ensures counts { CountsStay F.Files files.old files.new }
+    ensures written { OnOk result (Changes F.Files (PartWritten out.now number rows.now) files.old files.new) }
+    ensures device { IfErr result (λ fault. AtFileDevice fault (FaultsRose F.Files files.old files.new)) }
     ensures partly { OnErr result (AfterFailedWrite (F.told files.old) (outputs.part_name out.now number) (table_text rows.now) (F.told files.new)) }
 {
     let text = lines(alloc, rows)?;
     let name = part_name(alloc, out, number)?;
-    match files.write(name.as_str(), text.as_slice()) {
-        Ok(()) => Ok(()),
-        Err(FileFault::Device(_)) => Err(Refusal::Device),
-        Err(FileFault::Memory) => Err(Refusal::Memory),
-    }
+    files.write(name.as_str(), text.as_slice())
 }
 
 /// The name of a part file in a folder. docs/FORMATS.md, "Part files".

@@ -1,7 +1,7 @@
 ghost use Rattle.std.specs.Prelude.{◌≡◌, ◌≢◌, IfSome, IfNone, IsTrue, ◌↔◌, [], None};
 ghost use Rattle.std.specs.Option.{option_copied};
-ghost use Rattle.haloop_run.specs.Words.{AskFor, IsUsage, words_of};
-ghost use Rattle.haloop_run.specs.Texts.{IsNamed, asked_by, texts};
+ghost use Rattle.haloop_run.specs.Words.{AskFor, IsUsage, texts, words_of};
+ghost use Rattle.haloop_run.specs.steps.Words.{IsNamed, asked_by};
 
 /// What a command names: the program's file, the schedule's file for `run` and none for `plain`, and the
 /// folder for the part files.

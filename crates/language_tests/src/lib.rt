@@ -5,4 +5,4 @@
 mod texts;
 mod vectors;
 
-pub use vectors::worked_tokens;
+pub use vectors::{key_part, small_text};

@@ -1,8 +1,9 @@
 // Programs and functions as they are written, read and printed.
-use function_language::{SyntaxFault, print_functions, read_functions};
+use function_language::{print_functions, read_functions};
 use hal_base::Shape;
 use loop_program::{ProgramFault, What, read_program};
 use program_sketch::parse_program;
+use program_tokens::SyntaxFault;
 use std::alloc::Global;
 use std::test::Fail;
 

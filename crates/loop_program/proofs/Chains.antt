@@ -3,7 +3,7 @@ use Rattle.std.proofs.Common.{ℕ, zero, suc, ◌≡◌, ◌≤◌, Bool, true, 
 use Rattle.std.specs.List.{AllByRecursion}
 use Rattle.program_sketch.specs.declared.fault.What.{What}
 use Rattle.program_sketch.specs.declared.fault.ProgramFault.{ProgramFault}
-use Rattle.loop_program.specs.Found as found
+use Rattle.type_checker.proofs.Binding.{bind_ok, then_ok}
 use Rattle.loop_program.specs.Found.{Found, demand, each, fine, or_wrong}
 use Rattle.loop_program.specs.Limits.{expect, few}
 
@@ -15,15 +15,6 @@ found_ok a = Ok a
 
 pub ok_same : {A : Type 0} {a b : A} → found_ok a ≡ found_ok b → a ≡ b
 ok_same e = cc
-
--- what follows on what was found
-pub bind_ok : {A B : Type 0} (r : Found A) (f : A → Found B) (y : B) → found.◌>>=◌ r f ≡ Ok y → (x : A) × (r ≡ Ok x) × (f x ≡ Ok y)
-bind_ok (Ok x) f y e = (x, refl, e)
-bind_ok (Err fault) f y e = absurd (no_fault fault y e)
-
-pub then_ok : {A B : Type 0} (r : Found A) (next : Found B) (y : B) → found.◌>>◌ r next ≡ Ok y → (x : A) × (r ≡ Ok x) × (next ≡ Ok y)
-then_ok (Ok x) next y e = (x, refl, e)
-then_ok (Err fault) next y e = absurd (no_fault fault y e)
 
 pub demanded : (test : Bool) (line : ℕ) (what : What) (u : Unit {0}) → demand test line what ≡ Ok u → test ≡ true
 demanded true line what u e = refl

@@ -13,10 +13,10 @@ use Rattle.program_sketch.specs.declared.fault.ProgramFault.TheVariants.{At, Mem
 use Rattle.program_sketch.specs.declared.sketch.Asked.{Asked}
 use Rattle.type_checker.specs.declared.uses.Uses.{Uses}
 use Rattle.loop_program.specs.declared.places.NamedStep.{NamedStep}
-use Rattle.loop_program.specs.Found as found
+use Rattle.type_checker.specs.Checked as found
 use Rattle.loop_program.specs.Found.{Found, each}
-use Rattle.loop_program.specs.Schemas.{last_line, last_out, one_schema, same_schema, step_typed, steps_typed, taken}
-use Rattle.loop_program.specs.Steps.{IsFound}
+use Rattle.loop_program.specs.Schemas.{last_line, last_schema, one_schema, same_schema, step_typed, steps_typed, schema_read}
+use Rattle.loop_program.specs.steps.Tells.{IsFound}
 use Rattle.loop_program.specs.Whole.{whole_of}
 
 -- those found, and then these, where no fault is in them
@@ -59,7 +59,7 @@ module _ {A B : Type 0} (f : A → Found B) (xs : List A) (before : List B) (i :
       ∙ one_more before y (each f (drop (i + 1) xs))
 
 -- a step that is typed stands behind those before
-pub steps_go_on : (functions : List Function) (tables : List Schema) (state output : Schema) (all : Found (List Step)) (before : List Step) (named : List NamedStep) (i : ℕ) (step : NamedStep) (typed : Step) → i < length named → step ≡ get_or named i step → all ≡ behind before (steps_typed functions tables state output (drop i named)) → step_typed functions (taken tables state output) step ≡ Ok typed → all ≡ behind (before ++ typed ∷ []) (steps_typed functions tables state typed.out (drop (i + 1) named))
+pub steps_go_on : (functions : List Function) (tables : List Schema) (state output : Schema) (all : Found (List Step)) (before : List Step) (named : List NamedStep) (i : ℕ) (step : NamedStep) (typed : Step) → i < length named → step ≡ get_or named i step → all ≡ behind before (steps_typed functions tables state output (drop i named)) → step_typed functions (schema_read tables state output) step ≡ Ok typed → all ≡ behind (before ++ typed ∷ []) (steps_typed functions tables state typed.out (drop (i + 1) named))
 steps_go_on functions tables state output all before named i step typed l g so_far e =
     so_far ∙ ap (λ steps. behind before (steps_typed functions tables state output steps)) (drop_more named i step l ∙ ap (λ s. s ∷ drop (i + 1) named) (sym g))
     ∙ ap (λ r. behind before (found.◌>>=◌ r (λ first. found.◌>>=◌ (steps_typed functions tables state first.out (drop (i + 1) named)) (λ others. Ok (first ∷ others))))) e
@@ -70,13 +70,13 @@ steps_go_on functions tables state output all before named i step typed l g so_f
 some_same : {A : Type 0} {a b : A} → Some a ≡ Some b → a ≡ b
 some_same e = cc
 
-pub last_out_is : (before : Schema) (steps : List Step) (step : Step) → slice_get steps (length steps - 1) ≡ Some step → last_out before steps ≡ step.out
-last_out_is before [] step e = absurd (no e)
+pub last_schema_is : (before : Schema) (steps : List Step) (step : Step) → slice_get steps (length steps - 1) ≡ Some step → last_schema before steps ≡ step.out
+last_schema_is before [] step e = absurd (no e)
   where
     no : slice_get [] 0 ≡ Some step → ⊥
     no e = cc
-last_out_is before (a ∷ []) step e = ap (λ (s : Step). s.out) (some_same e)
-last_out_is before (a ∷ b ∷ steps) step e = last_out_is a.out (b ∷ steps) step (simp unary_clauses (simp unary_clauses at e))
+last_schema_is before (a ∷ []) step e = ap (λ (s : Step). s.out) (some_same e)
+last_schema_is before (a ∷ b ∷ steps) step e = last_schema_is a.out (b ∷ steps) step (simp unary_clauses (simp unary_clauses at e))
 
 pub last_line_is : (before : ℕ) (steps : List NamedStep) (step : NamedStep) → slice_get steps (length steps - 1) ≡ Some step → last_line before steps ≡ step.reduce.line
 last_line_is before [] step e = absurd (no e)

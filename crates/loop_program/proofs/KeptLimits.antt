@@ -4,7 +4,7 @@ use Rattle.std.specs.List.{AllByRecursion}
 use Rattle.std.proofs.lemmas.Bool.{and_parts, false≢true, leb-true}
 use Rattle.std.proofs.Math.Nat.{min-eq_left}
 use Rattle.function_language.specs.declared.tree.Function.{Function}
-use Rattle.function_language.specs.declared.tree.Number.{Number}
+use Rattle.program_tokens.specs.declared.token.Number.{Number}
 use Rattle.hal_base.specs.declared.shape.Origin.{Origin}
 use Rattle.hal_base.specs.declared.shape.Origin.TheVariants.{State, Prev, Table}
 use Rattle.program_sketch.specs.declared.sketch.InputSketch.{InputSketch}
@@ -16,8 +16,8 @@ use Rattle.loop_program.specs.declared.typing.TypedSketch.{TypedSketch}
 use Rattle.loop_program.specs.Found.{each, fine}
 use Rattle.loop_program.specs.Limits.{counts, few, function_line, function_within, input_line, input_within, is_count, limits, only_within, step_line, step_within, table_line, table_within}
 use Rattle.loop_program.specs.Places.{count_of, input_named, map_named, only_of, partition_named, reduce_named, step_named, steps_named, table_named}
-use Rattle.loop_program.specs.Rules.{IsTable}
-use Rattle.loop_program.proofs.Chains.{bind_ok, each_length, expected, few_length, few_within, ok_same, then_ok}
+use Rattle.type_checker.proofs.Binding.{bind_ok, then_ok}
+use Rattle.loop_program.proofs.Chains.{each_length, expected, few_length, few_within, ok_same}
 
 -- ---- numbers
 
@@ -63,29 +63,36 @@ limits_kept sketch u e =
 
 -- ---- the names in its steps
 
+-- a table, in every round or in one that a program may have
+abbrev pub IsNamedTable : Origin → Type 0
+IsNamedTable State = ⊥
+IsNamedTable Prev = ⊥
+IsNamedTable (Table t None) = Unit {0}
+IsNamedTable (Table t (Some round)) = (1 ≤ round) × (round ≤ 10000)
+
 -- the first source is this, and each other a table
 abbrev pub NamedFrom : Origin → List NamedSource → Type 0
 NamedFrom first [] = ⊥
-NamedFrom first (source ∷ sources) = (source.from ≡ first) × AllByRecursion (λ (source : NamedSource). IsTable source.from) sources
+NamedFrom first (source ∷ sources) = (source.from ≡ first) × AllByRecursion (λ (source : NamedSource). IsNamedTable source.from) sources
 
 -- the first step begins with this, and each other with the output before
 abbrev pub StepsFrom : Origin → List NamedStep → Type 0
 StepsFrom first [] = Unit {0}
 StepsFrom first (step ∷ steps) = (length step.sources ≤ 8) × NamedFrom first step.sources × StepsFrom Prev steps
 
-only_table : (n : ℕ) (only : Option Number) (u : Unit {0}) → only_within only ≡ Ok u → IsTable (Table n (only_of only))
+only_table : (n : ℕ) (only : Option Number) (u : Unit {0}) → only_within only ≡ Ok u → IsNamedTable (Table n (only_of only))
 only_table n None u e = tt
 only_table n (Some number) u e = count_kept 10000 number u (omega arith) e
 
-inputs_from : (tables : List TableSketch) (functions : List Function) (inputs : List InputSketch) (named : List NamedSource) → AllByRecursion (λ (input : InputSketch). input_within input ≡ fine) inputs → each (input_named tables functions) inputs ≡ Ok named → AllByRecursion (λ (source : NamedSource). IsTable source.from) named
-inputs_from tables functions [] named w e = subst (AllByRecursion (λ (source : NamedSource). IsTable source.from)) (ok_same e) tt
+inputs_from : (tables : List TableSketch) (functions : List Function) (inputs : List InputSketch) (named : List NamedSource) → AllByRecursion (λ (input : InputSketch). input_within input ≡ fine) inputs → each (input_named tables functions) inputs ≡ Ok named → AllByRecursion (λ (source : NamedSource). IsNamedTable source.from) named
+inputs_from tables functions [] named w e = subst (AllByRecursion (λ (source : NamedSource). IsNamedTable source.from)) (ok_same e) tt
 inputs_from tables functions (input ∷ inputs) named w e =
     let first = bind_ok (input_named tables functions input) _ named e in
     let rest = bind_ok (each (input_named tables functions) inputs) _ named first.2 in
     let table = bind_ok (table_named tables input.table) _ first.0 first.1 in
     let map = bind_ok (map_named functions input.map) _ first.0 table.2 in
-    let is_table : IsTable first.0.from = subst (λ (source : NamedSource). IsTable source.from) (ok_same map.2) (only_table table.0 input.only tt w.0) in
-    subst (AllByRecursion (λ (source : NamedSource). IsTable source.from)) (ok_same rest.2) (is_table, inputs_from tables functions inputs rest.0 w.1 rest.1)
+    let is_table : IsNamedTable first.0.from = subst (λ (source : NamedSource). IsNamedTable source.from) (ok_same map.2) (only_table table.0 input.only tt w.0) in
+    subst (AllByRecursion (λ (source : NamedSource). IsNamedTable source.from)) (ok_same rest.2) (is_table, inputs_from tables functions inputs rest.0 w.1 rest.1)
 
 step_from : (tables : List TableSketch) (functions : List Function) (from : Origin) (step : StepSketch) (named : NamedStep) → step_within step ≡ fine → step_named tables functions from step ≡ Ok named → (length named.sources ≤ 8) × NamedFrom from named.sources
 step_from tables functions from step named w e =

@@ -1,3 +1,4 @@
+mod ByNumber
 pub mod Chains
 mod Collecting
 mod KeptLimits

@@ -3,7 +3,7 @@ use Rattle.std.proofs.Common.{Ok, Err, IfErr, IfOk, Result, List, [], Some, None
 use Rattle.function_language.specs.declared.tree.Function.{Function}
 use Rattle.type_checker.specs.declared.fault.TypeFault.{TypeFault}
 use Rattle.type_checker.specs.declared.fault.TypeFault.TheVariants as fault
-use Rattle.type_checker.specs.Found.{Found as Checked, fine}
+use Rattle.type_checker.specs.Checked.{Checked, fine}
 use Rattle.type_checker.specs.Functions.{HaveTypeFault, functions_right}
 use Rattle.program_sketch.specs.declared.fault.ProgramFault.{ProgramFault}
 use Rattle.program_sketch.specs.declared.fault.ProgramFault.TheVariants.{At, Memory}
@@ -13,7 +13,7 @@ use Rattle.program_sketch.specs.Programs.{IsMisspelled, IsNotRead, IsProgramText
 use Rattle.program_sketch.specs.Programs as spelling
 use Rattle.loop_program.specs.Found.{Found}
 use Rattle.loop_program.specs.Programs.{HasWrong, IsFaulty, IsJustProgram, IsRefusedBy, IsTextOfProgram, OneThingIsWrong, accepted}
-use Rattle.loop_program.specs.Steps.{FaultIs, IsFound, SaysFault, Tells}
+use Rattle.loop_program.specs.steps.Tells.{FaultIs, IsFound, SaysFault, Tells}
 use Rattle.loop_program.specs.Whole.{Whole}
 use Rattle.loop_program.specs.Types.{AreRight, HasFirst, IsSaid, as_typed, double_table}
 use Rattle.program_sketch.proofs.Programs.{not_misspelled, one_misspelling, one_program}

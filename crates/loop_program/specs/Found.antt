@@ -1,5 +1,6 @@
 -- What is found, or the first fault.
 use Rattle.std.specs.Prelude.{ℕ, Bool, cond, List, [], ◌∷◌, Option, None, Some, Result, Ok, Err}
+use Rattle.type_checker.specs.Checked.{◌>>=◌}
 use Rattle.program_sketch.specs.declared.fault.What.{What}
 use Rattle.program_sketch.specs.declared.fault.ProgramFault.{ProgramFault}
 use Rattle.program_sketch.specs.declared.fault.ProgramFault.TheVariants.{At}
@@ -7,18 +8,6 @@ use Rattle.program_sketch.specs.declared.fault.ProgramFault.TheVariants.{At}
 -- something, or what is wrong in which line
 abbrev pub Found : Type 0 → Type 0
 Found A = Result A ProgramFault
-
--- goes on with what was found
-infixl 10 ◌>>=◌
-abbrev pub ◌>>=◌ : {A B : Type 0} → Found A → (A → Found B) → Found B
-(Ok a) >>= f = f a
-(Err fault) >>= f = Err fault
-
--- goes on where no fault was found
-infixl 10 ◌>>◌
-abbrev pub ◌>>◌ : {A B : Type 0} → Found A → Found B → Found B
-(Ok a) >> b = b
-(Err fault) >> b = Err fault
 
 -- no fault
 abbrev pub fine : Found (Unit {0})

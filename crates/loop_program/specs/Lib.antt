@@ -4,6 +4,6 @@ pub mod Places
 pub mod Programs
 pub mod Rules
 pub mod Schemas
-pub mod Steps
+pub mod steps
 pub mod Types
 pub mod Whole

@@ -2,7 +2,7 @@
 use Rattle.std.specs.Prelude.{ℕ, zero, suc, cond, Err, nat_le, ℤ, pos, negsuc, Bool, true, false, ◌&&◌, List, [], ◌∷◌, length, Option, None, Some}
 use Rattle.function_language.specs.declared.tree.Function.{Function}
 use Rattle.function_language.specs.declared.tree.Function.TheVariants.{Map, Reduce, Distance, Partition}
-use Rattle.function_language.specs.declared.tree.Number.{Number}
+use Rattle.program_tokens.specs.declared.token.Number.{Number}
 use Rattle.function_language.specs.declared.tree.Stream.{Stream}
 use Rattle.type_checker.specs.Functions.{name_of}
 use Rattle.program_sketch.specs.declared.fault.ProgramFault.TheVariants.{At}
@@ -11,7 +11,8 @@ use Rattle.program_sketch.specs.declared.sketch.InputSketch.{InputSketch}
 use Rattle.program_sketch.specs.declared.sketch.StepSketch.{StepSketch}
 use Rattle.program_sketch.specs.declared.sketch.TableSketch.{TableSketch}
 use Rattle.loop_program.specs.declared.typing.TypedSketch.{TypedSketch}
-use Rattle.loop_program.specs.Found.{Found, ◌>>◌, fine}
+use Rattle.type_checker.specs.Checked.{◌>>◌}
+use Rattle.loop_program.specs.Found.{Found, fine}
 
 -- a limit is broken in this line
 abbrev pub refused : ℕ → Found (Unit {0})
@@ -42,6 +43,7 @@ counts most number = expect (is_count most number.value) number.line
 abbrev pub make_a_record : ℕ → Bool
 make_a_record n = nat_le 1 n && nat_le n 8
 
+-- a name is not empty
 abbrev pub is_named : List ℕ → Bool
 is_named [] = false
 is_named (byte ∷ bytes) = true
@@ -56,6 +58,7 @@ table_within table = do
 abbrev pub stream_within : Stream → Found (Unit {0})
 stream_within stream = expect (nat_le (length stream.kinds) 7) stream.name.line
 
+-- a stream is named at its name
 abbrev pub stream_line : Stream → ℕ
 stream_line stream = stream.name.line
 
@@ -72,9 +75,11 @@ function_within (Distance name key before after body) = do
   stream_within after
 function_within (Partition name key body) = fine
 
+-- a function is named at its name
 abbrev pub function_line : Function → ℕ
 function_line function = (name_of function).line
 
+-- a table is named at its name
 abbrev pub table_line : TableSketch → ℕ
 table_line table = table.name.line
 
@@ -83,9 +88,11 @@ abbrev pub only_within : Option Number → Found (Unit {0})
 only_within None = fine
 only_within (Some number) = counts 10000 number
 
+-- a table that a step reads is read in every round or in one that a program may have
 abbrev pub input_within : InputSketch → Found (Unit {0})
 input_within input = only_within input.only
 
+-- it is named at the name of the table
 abbrev pub input_line : InputSketch → ℕ
 input_line input = input.table.line
 
@@ -93,6 +100,7 @@ input_line input = input.table.line
 abbrev pub step_within : StepSketch → Found (Unit {0})
 step_within step = few input_line input_within 7 step.inputs
 
+-- a step is named at its first word
 abbrev pub step_line : StepSketch → ℕ
 step_line step = step.line
 

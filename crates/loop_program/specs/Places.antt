@@ -6,8 +6,8 @@ use Rattle.hal_base.specs.declared.shape.Origin.{Origin}
 use Rattle.hal_base.specs.declared.shape.Origin.TheVariants.{State, Prev, Table}
 use Rattle.function_language.specs.declared.tree.Function.{Function}
 use Rattle.function_language.specs.declared.tree.Function.TheVariants.{Map, Reduce, Distance, Partition}
-use Rattle.function_language.specs.declared.tree.Ident.{Ident}
-use Rattle.function_language.specs.declared.tree.Number.{Number}
+use Rattle.program_tokens.specs.declared.token.Ident.{Ident}
+use Rattle.program_tokens.specs.declared.token.Number.{Number}
 use Rattle.type_checker.specs.Functions.{name_of}
 use Rattle.type_checker.specs.declared.uses.Use.{Use}
 use Rattle.type_checker.specs.declared.uses.Use.TheVariants as a_use
@@ -24,7 +24,8 @@ use Rattle.loop_program.specs.declared.places.Places.{Places}
 use Rattle.loop_program.specs.declared.places.Sort.{Sort}
 use Rattle.loop_program.specs.declared.places.Sort.TheVariants as sort
 use Rattle.loop_program.specs.declared.typing.TypedSketch.{TypedSketch}
-use Rattle.loop_program.specs.Found.{Found, ◌>>=◌, each, or_wrong}
+use Rattle.type_checker.specs.Checked.{◌>>=◌}
+use Rattle.loop_program.specs.Found.{Found, each, or_wrong}
 
 -- a function is of this sort
 abbrev pub is_of : Sort → Function → Bool
@@ -59,9 +60,11 @@ own_named sort functions ident = do
   n ← or_wrong (position (is_called sort ident.text) functions) ident.line UnknownName
   Ok (named (a_use.Function n) ident)
 
+-- a map is `same`, or one of the program's own
 abbrev pub map_named : List Function → Ident → Found Named
 map_named functions ident = cond (bytes_eq ident.text (codes "same")) (Ok (named a_use.Same ident)) (own_named sort.Map functions ident)
 
+-- a reduce is `least`, `every` or `hop`, or one of the program's own
 abbrev pub reduce_named : List Function → Ident → Found Named
 reduce_named functions ident =
     cond (bytes_eq ident.text (codes "least")) (Ok (named a_use.Least ident))
@@ -72,10 +75,12 @@ reduce_named functions ident =
 abbrev pub default : ℕ → Named
 default line = record { what = a_use.Default; line = line }
 
+-- a partition is the default where none is named, or one of the program's own
 abbrev pub partition_named : List Function → ℕ → Option Ident → Found Named
 partition_named functions line None = Ok (default line)
 partition_named functions line (Some ident) = own_named sort.Partition functions ident
 
+-- the distance of an exact stop is the default, and each other one of the program's own
 abbrev pub distance_named : List Function → StopSketch → Found Named
 distance_named functions Exact = Ok (default 0)
 distance_named functions (Below threshold by) = own_named sort.Distance functions by
@@ -89,6 +94,7 @@ abbrev pub count_of : ℤ → ℕ
 count_of (pos n) = min n 4294967295
 count_of (negsuc n) = 0
 
+-- the one round in which a table is read
 abbrev pub only_of : Option Number → Option ℕ
 only_of None = None
 only_of (Some number) = Some (count_of number.value)

@@ -18,15 +18,17 @@ use Rattle.loop_program.specs.declared.places.NamedSource.{NamedSource}
 use Rattle.loop_program.specs.declared.places.NamedStep.{NamedStep}
 use Rattle.loop_program.specs.declared.places.Places.{Places}
 use Rattle.loop_program.specs.declared.typing.TypedSketch.{TypedSketch}
-use Rattle.loop_program.specs.Found.{Found, ◌>>=◌, ◌>>◌, demand, each, or_wrong}
+use Rattle.type_checker.specs.Checked.{◌>>=◌, ◌>>◌}
+use Rattle.loop_program.specs.Found.{Found, demand, each, or_wrong}
 use Rattle.loop_program.specs.Limits.{limits}
 use Rattle.loop_program.specs.Places.{count_of, places}
-use Rattle.loop_program.specs.Schemas.{distance_takes, last_line, last_out, same_schema, steps_typed, table_schema}
+use Rattle.loop_program.specs.Schemas.{distance_takes, last_line, last_schema, same_schema, steps_typed, table_schema}
 use Rattle.loop_program.specs.Whole.{Whole}
 use Rattle.loop_program.specs.Types.{AreRight, HasFirst, as_typed}
 
 -- ---- what an accepted program is
 
+-- the program stops exactly
 abbrev pub is_exact : StopSketch → Bool
 is_exact Exact = true
 is_exact (Below threshold by) = false
@@ -41,9 +43,11 @@ abbrev pub threshold_of : StopSketch → ℕ
 threshold_of Exact = 1
 threshold_of (Below threshold by) = natural_of threshold.value
 
+-- the functions that a step uses
 abbrev pub step_uses : NamedStep → UseStep
 step_uses step = record { maps = map (λ (source : NamedSource). source.map.what) step.sources; reduce = step.reduce.what; partition = step.partition.what }
 
+-- the functions that all steps use, and the distance
 abbrev pub uses_of : Places → Uses
 uses_of found = record { steps = map step_uses found.steps; distance = found.distance.what }
 
@@ -61,6 +65,7 @@ shape_of sketch start tables steps = record {
   reducer_output = false;
 }
 
+-- the program of a sketch, of what its names stand for, and of its schemas
 abbrev pub whole : TypedSketch → Places → List Schema → List Step → Whole
 whole sketch found tables steps = record {
   functions = sketch.functions;
@@ -76,7 +81,7 @@ abbrev pub schemas : TypedSketch → Places → List Schema → Found (List Step
 schemas sketch found tables = do
   state ← or_wrong (slice_get tables found.start) sketch.start.line SchemaMismatch
   steps ← steps_typed sketch.functions tables state state found.steps
-  demand (same_schema (last_out state steps) state) (last_line 0 found.steps) SchemaMismatch
+  demand (same_schema (last_schema state steps) state) (last_line 0 found.steps) SchemaMismatch
   demand (distance_takes sketch.functions found.distance.what state) found.distance.line SchemaMismatch
   Ok steps
 

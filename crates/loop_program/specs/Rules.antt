@@ -1,88 +1,60 @@
 -- What every program keeps that is accepted.
-use Rattle.std.specs.Prelude.{◌≡◌, ◌≤◌, true, false, List, [], ◌∷◌, length, Option, None, Some, slice_get}
+use Rattle.std.specs.Prelude.{◌≡◌, ℕ, true, false, List, Option, Some, length}
 use Rattle.std.specs.List.{AllByRecursion}
+use Rattle.std.specs.Option.{option_and_then, option_map_or}
 use Rattle.hal_base.specs.declared.fields.Schema.{Schema}
-use Rattle.hal_base.specs.declared.shape.Origin.{Origin}
-use Rattle.hal_base.specs.declared.shape.Origin.TheVariants.{State, Prev, Table}
 use Rattle.hal_base.specs.declared.shape.Shape.{Shape}
 use Rattle.hal_base.specs.declared.shape.Source.{Source}
 use Rattle.hal_base.specs.declared.shape.Step.{Step}
+use Rattle.hal_base.specs.Shapes.{IsWellFormed, MayBeKept, key_kind, out_schema, source_at, state_schema, step_at, taken}
 use Rattle.function_language.specs.declared.tree.Function.{Function as Written}
+use Rattle.function_language.specs.Spelled.{CanBeSpelled}
+use Rattle.type_checker.specs.Uses.{key_kept, map_at, partition_at, reduce_at, round_used}
 use Rattle.type_checker.specs.Functions.{AreTyped}
 use Rattle.type_checker.specs.declared.uses.Use.{Use}
 use Rattle.type_checker.specs.declared.uses.Use.TheVariants.{Default}
-use Rattle.type_checker.specs.declared.uses.UseStep.{UseStep}
 use Rattle.type_checker.specs.declared.uses.Uses.{Uses}
 use Rattle.loop_program.specs.Found.{fine}
 use Rattle.loop_program.specs.Limits.{few, function_line, function_within}
-use Rattle.loop_program.specs.Schemas.{distance_takes, key_of, last_out, map_makes, partition_takes, reduce_makes, taken}
+use Rattle.loop_program.specs.Schemas.{distance_takes, map_makes, partition_takes, reduce_makes}
 use Rattle.loop_program.specs.Whole.{Whole}
 
--- a source without caches, whose map makes its stream of the records that it takes
-pub record SourceFits (functions : List Written) (takes : Origin → Option Schema) (map : Use) (source : Source) : Type 0 where
-  pub schema : Schema
-  pub there : takes source.from ≡ Some schema
-  pub makes : map_makes functions map schema ≡ Some source.stream
-  pub reducer_input : source.reducer_input ≡ false
-  pub mapper_input : source.mapper_input ≡ false
-
--- there is one map for each source
-abbrev pub SourcesFit : List Written → (Origin → Option Schema) → List Use → List Source → Type 0
-SourcesFit functions takes [] [] = Unit {0}
-SourcesFit functions takes [] (source ∷ sources) = ⊥
-SourcesFit functions takes (map ∷ maps) [] = ⊥
-SourcesFit functions takes (map ∷ maps) (source ∷ sources) = SourceFits functions takes map source × SourcesFit functions takes maps sources
-
--- a table, in every round or in one
-abbrev pub IsTable : Origin → Type 0
-IsTable State = ⊥
-IsTable Prev = ⊥
-IsTable (Table n None) = Unit {0}
-IsTable (Table n (Some round)) = (1 ≤ round) × (round ≤ 10000)
-
--- the first source is this, and each other a table
-abbrev pub ReadFrom : Origin → List Source → Type 0
-ReadFrom first [] = ⊥
-ReadFrom first (source ∷ sources) = (source.from ≡ first) × AllByRecursion (λ (source : Source). IsTable source.from) sources
-
--- the streams of a step have one kind of key, which its partition takes, and its reduce makes its output of them
-pub record StepFits (functions : List Written) (takes : Origin → Option Schema) (uses : UseStep) (step : Step) : Type 0 where
-  pub few : length step.sources ≤ 8
-  pub sources : SourcesFit functions takes uses.maps step.sources
-  pub keys : AllByRecursion (λ (source : Source). source.stream.key ≡ key_of step.sources) step.sources
-  pub reduce : reduce_makes functions uses.reduce step.sources ≡ Some step.out
-  pub partition : partition_takes functions uses.partition (key_of step.sources) ≡ true
-
--- there are the functions of one step for each; the first source is this of the first step, and the output before of each other
-abbrev pub StepsFit : List Written → List Schema → Schema → Origin → Schema → List UseStep → List Step → Type 0
-StepsFit functions tables state first before [] [] = Unit {0}
-StepsFit functions tables state first before [] (step ∷ steps) = ⊥
-StepsFit functions tables state first before (uses ∷ others) [] = ⊥
-StepsFit functions tables state first before (uses ∷ others) (step ∷ steps) =
-    StepFits functions (taken tables state before) uses step × ReadFrom first step.sources × StepsFit functions tables state Prev step.out others steps
-
--- the program's numbers are within their limits
-pub record KeepsLimits (shape : Shape) : Type 0 where
-  pub parts : (1 ≤ shape.parts) × (shape.parts ≤ 64)
-  pub rounds : (1 ≤ shape.rounds) × (shape.rounds ≤ 10000)
-  pub tables : length shape.tables ≤ 16
-  pub steps : (1 ≤ length shape.steps) × (length shape.steps ≤ 8)
-
--- the functions that are used fit the shape, whose start table is of this schema, and which has no caches
-pub record UsesFit (functions : List Written) (uses : Uses) (shape : Shape) (state : Schema) : Type 0 where
-  pub start : slice_get shape.tables shape.start ≡ Some state
-  pub steps : StepsFit functions shape.tables state State state uses.steps shape.steps
-  pub out : last_out state shape.steps ≡ state
-  pub distance : distance_takes functions uses.distance state ≡ true
+-- the functions that the steps use, and the distance, fit the shape
+pub record UsesFit (functions : List Written) (uses : Uses) (shape : Shape) : Type 0 where
+  -- the map of each source makes its stream of the records that it takes
+  pub maps : (j s : ℕ) (source : Source) (schema : Schema) → source_at shape j s ≡ Some source → taken shape j source.from ≡ Some schema → option_and_then (λ (map : Use). map_makes functions map schema) (map_at uses j s) ≡ Some source.stream
+  -- the streams of a step have keys of one kind
+  pub keys : (j : ℕ) (step : Step) → step_at shape j ≡ Some step → AllByRecursion (λ (source : Source). source.stream.key ≡ key_kind step.sources) step.sources
+  -- the reduce of each step makes its output of them
+  pub reduces : (j : ℕ) (step : Step) → step_at shape j ≡ Some step → option_and_then (λ (reduce : Use). reduce_makes functions reduce step.sources) (reduce_at uses j) ≡ Some step.out
+  -- its partition takes their keys
+  pub partitions : (j : ℕ) (step : Step) → step_at shape j ≡ Some step → option_map_or (λ (partition : Use). partition_takes functions partition (key_kind step.sources)) (partition_at uses j) false ≡ true
+  -- what the last step leaves is the next state
+  pub last : out_schema shape (length shape.steps) ≡ state_schema shape
+  -- the distance takes the groups of the state
+  pub distance : (schema : Schema) → state_schema shape ≡ Some schema → distance_takes functions uses.distance schema ≡ true
+  -- a program that stops exactly stops where the default distance is below 1
   pub exact : shape.exact ≡ true → (shape.threshold ≡ 1) × (uses.distance ≡ Default)
-  pub reducer_output : shape.reducer_output ≡ false
+  -- no other program has the default distance
+  pub default : uses.distance ≡ Default → shape.exact ≡ true
+  -- a source with the reducer input cache may be kept over the rounds
+  pub reducer_input : (j s : ℕ) (source : Source) → source_at shape j s ≡ Some source → source.reducer_input ≡ true → MayBeKept source.from (round_used functions (map_at uses j s)) (round_used functions (partition_at uses j))
+  -- with the reducer output cache each key stays in its part
+  pub reducer_output : shape.reducer_output ≡ true → (key_kept functions (reduce_at uses (length shape.steps)) ≡ true) × (round_used functions (partition_at uses (length shape.steps)) ≡ false)
 
--- what an accepted program keeps: its functions are typed and within the limits, and so is its shape, which they fit; each table has a name and a file
+-- what an accepted program keeps
 pub record KeepsRules (program : Whole) : Type 0 where
+  -- its functions are typed
   pub typed : AreTyped program.functions
+  -- their names, numbers and texts can be spelled
+  pub spelled : CanBeSpelled program.functions
+  -- they are within their limits
   pub within : few function_line function_within 64 program.functions ≡ fine
-  pub limits : KeepsLimits program.shape
-  pub state : Schema
-  pub fits : UsesFit program.functions program.uses program.shape state
+  -- its shape is well formed
+  pub shape : IsWellFormed program.shape
+  -- the functions that it uses fit its shape
+  pub fits : UsesFit program.functions program.uses program.shape
+  -- each table has a name
   pub names : length program.names ≡ length program.shape.tables
+  -- and a file
   pub files : length program.files ≡ length program.shape.tables

@@ -14,6 +14,7 @@ pub record Whole : Type 0 where
   pub files : List (List ℕ)
   pub asked : Asked
 
+-- the program of these parts
 abbrev pub whole_of : List Function → Uses → Shape → List (List ℕ) → List (List ℕ) → Asked → Whole
 whole_of functions uses shape names files asked = record { functions = functions; uses = uses; shape = shape; names = names; files = files; asked = asked }
 

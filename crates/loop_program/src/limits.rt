@@ -5,8 +5,9 @@ ghost use Rattle.loop_program.specs.Limits.{few};
 
 use crate::places::name_of;
 use crate::typing::TypedSketch;
-use function_language::{Function, Number, Stream};
+use function_language::{Function, Stream};
 use program_sketch::{InputSketch, ProgramFault, StepSketch, TableSketch, What};
+use program_tokens::Number;
 
 /// A part of a program of which there may be so many, and each must be within its own limits.
 trait Limited {

@@ -6,12 +6,13 @@ ghost use Rattle.hal_base.specs.declared.shape.Origin.TheVariants as origin;
 ghost use Rattle.type_checker.specs.Functions as functions;
 ghost use Rattle.loop_program.specs.Found.{each};
 ghost use Rattle.loop_program.specs.Places as spec;
-ghost use Rattle.loop_program.specs.Steps.{Tells};
+ghost use Rattle.loop_program.specs.steps.Tells.{Tells};
 
 use crate::typing::TypedSketch;
-use function_language::{Function, Ident, Number};
+use function_language::Function;
 use hal_base::{Items, Memory, Origin};
 use program_sketch::{InputSketch, ProgramFault, StepSketch, StopSketch, TableSketch, What};
+use program_tokens::{Ident, Number};
 use std::alloc::Global;
 use type_checker::Use;
 

@@ -1,11 +1,12 @@
 ghost use Rattle.std.specs.Prelude.{◌≡◌, ◌≤◌, IfErr, IfOk, length, map};
 ghost use Rattle.program_sketch.specs.declared.sketch.TableSketch.{TableSketch as Written};
+ghost use Rattle.function_language.specs.Spelled.{CanBeSpelled};
 ghost use Rattle.type_checker.specs.Functions.{AreTyped};
 ghost use Rattle.loop_program.specs.Programs as spec;
 ghost use Rattle.loop_program.specs.Programs.{IsJustProgram, IsRefusedBy};
 ghost use Rattle.loop_program.specs.Rules.{KeepsRules};
 ghost use Rattle.loop_program.specs.Schemas as schemas;
-ghost use Rattle.loop_program.specs.Steps.{Tells};
+ghost use Rattle.loop_program.specs.steps.Tells.{Tells};
 
 use crate::limits::limits;
 use crate::places::{NamedStep, Places, count_of, find_places};
@@ -33,6 +34,7 @@ pub fn read_program(alloc: Global, text: &[u8]) -> Result<Program, ProgramFault>
 /// The program, where its limits, the names in its steps and their schemas are right.
 fn accept(alloc: Global, sketch: TypedSketch) -> Result<Program, ProgramFault>
     requires typed { AreTyped sketch.functions }
+    requires spelled { CanBeSpelled sketch.functions }
     requires steps { 1 ≤ length sketch.steps }
     ensures found { Tells (spec.accepted sketch) result }
     ensures kept { IfOk result KeepsRules }
@@ -59,7 +61,7 @@ fn typed_steps(
         return Err(mismatch(sketch.start.line));
     };
     let steps = steps_typed(alloc, functions, tables, state, found.steps.as_slice())?;
-    if !same_schema(last_out(state, steps.as_slice()), state) {
+    if !same_schema(last_schema(state, steps.as_slice()), state) {
         return Err(mismatch(last_line(found.steps.as_slice())));
     }
     if !distance_takes(functions, found.distance.what, state) {
@@ -69,8 +71,8 @@ fn typed_steps(
 }
 
 /// What the last step makes, or what stood before.
-fn last_out<'a>(before: &'a Schema, steps: &'a [Step]) -> &'a Schema
-    ensures { result.now ≡ schemas.last_out before.now steps.now }
+fn last_schema<'a>(before: &'a Schema, steps: &'a [Step]) -> &'a Schema
+    ensures { result.now ≡ schemas.last_schema before.now steps.now }
 {
     match steps.last() {
         Some(step) => &step.out,

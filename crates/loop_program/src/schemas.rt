@@ -2,10 +2,11 @@ ghost use Rattle.std.specs.Prelude.{◌≡◌, ◌≤◌, IfOk, None, length, ma
 ghost use Rattle.std.specs.List.{list_all};
 ghost use Rattle.std.specs.Option.{option_copied};
 ghost use Rattle.hal_base.specs.declared.shape.Source.{Source as Read};
+ghost use Rattle.hal_base.specs.Shapes as shapes;
 ghost use Rattle.loop_program.specs.Found.{each};
 ghost use Rattle.loop_program.specs.Schemas as spec;
-ghost use Rattle.loop_program.specs.Schemas.{kind_taken, same_kinds, taken};
-ghost use Rattle.loop_program.specs.Steps.{Tells};
+ghost use Rattle.loop_program.specs.Schemas.{kind_taken, same_kinds, schema_read};
+ghost use Rattle.loop_program.specs.steps.Tells.{Tells};
 
 use crate::places::{Named, NamedSource, NamedStep};
 use function_language::{Function, Param, Stream};
@@ -77,7 +78,7 @@ pub(crate) fn steps_typed(
 }
 
 fn step_typed(alloc: Global, before: &Before<'_>, step: &NamedStep) -> Result<Step, ProgramFault>
-    ensures { Tells (spec.step_typed before.now.functions.now (taken before.now.tables.now before.now.state.now before.now.output.now) step.now) result }
+    ensures { Tells (spec.step_typed before.now.functions.now (schema_read before.now.tables.now before.now.state.now before.now.output.now) step.now) result }
 {
     let sources = sources_typed(alloc, before, step.sources.as_slice())?;
     let Some(out) = reduce_makes(
@@ -92,7 +93,7 @@ fn step_typed(alloc: Global, before: &Before<'_>, step: &NamedStep) -> Result<St
     if !partition_takes(
         before.functions,
         step.partition.what,
-        key_of(sources.as_slice()),
+        key_kind(sources.as_slice()),
     ) {
         return Err(mismatch(step.partition.line));
     }
@@ -109,8 +110,8 @@ pub(crate) fn mismatch(line: u64) -> ProgramFault
 }
 
 /// The kind of the streams' keys.
-fn key_of(sources: &[Source]) -> Kind
-    ensures { result ≡ spec.key_of sources.now }
+fn key_kind(sources: &[Source]) -> Kind
+    ensures { result ≡ shapes.key_kind sources.now }
 {
     match sources {
         [first, ..] => first.stream.key,
@@ -123,7 +124,7 @@ fn sources_typed(
     before: &Before<'_>,
     sources: &[NamedSource],
 ) -> Result<Sources, ProgramFault>
-    ensures { Tells (spec.sources_typed before.now.functions.now (taken before.now.tables.now before.now.state.now before.now.output.now) None sources.now) result }
+    ensures { Tells (spec.sources_typed before.now.functions.now (schema_read before.now.tables.now before.now.state.now before.now.output.now) None sources.now) result }
 {
     let mut made = Sources::new(alloc);
     let mut key = None;
@@ -142,10 +143,10 @@ fn source_typed(
     key: Option<Kind>,
     source: &NamedSource,
 ) -> Result<Source, ProgramFault>
-    ensures { Tells (spec.source_typed before.now.functions.now (taken before.now.tables.now before.now.state.now before.now.output.now) key source.now) result }
+    ensures { Tells (spec.source_typed before.now.functions.now (schema_read before.now.tables.now before.now.state.now before.now.output.now) key source.now) result }
 {
     let line = source.map.line;
-    let Some(schema) = taken(before, &source.from) else {
+    let Some(schema) = schema_read(before, &source.from) else {
         return Err(mismatch(line));
     };
     let Some(stream) = map_makes(alloc, before.functions, source.map.what, schema)? else {
@@ -155,7 +156,7 @@ fn source_typed(
         return Err(mismatch(line));
     }
     Ok(Source {
-        from: copied(&source.from),
+        from: source.from,
         stream,
         reducer_input: false,
         mapper_input: false,
@@ -163,26 +164,13 @@ fn source_typed(
 }
 
 /// The schema of the records that a source takes.
-fn taken<'a>(before: &Before<'a>, from: &Origin) -> Option<&'a Schema>
-    ensures { option_copied result ≡ spec.taken before.now.tables.now before.now.state.now before.now.output.now from.now }
+fn schema_read<'a>(before: &Before<'a>, from: &Origin) -> Option<&'a Schema>
+    ensures { option_copied result ≡ spec.schema_read before.now.tables.now before.now.state.now before.now.output.now from.now }
 {
     match from {
         Origin::State => Some(before.state),
         Origin::Prev => Some(before.output),
         Origin::Table { table, .. } => before.tables.get(*table as usize),
-    }
-}
-
-fn copied(from: &Origin) -> Origin
-    ensures { result ≡ from.now }
-{
-    match from {
-        Origin::State => Origin::State,
-        Origin::Prev => Origin::Prev,
-        Origin::Table { table, only } => Origin::Table {
-            table: *table,
-            only: *only,
-        },
     }
 }
 

@@ -1,14 +1,14 @@
 ghost use Rattle.std.specs.Prelude.{◌≡◌, [], IfErr, IfOk};
-ghost use Rattle.loop_program.specs.Steps.{FaultIs, SaysFault};
+ghost use Rattle.loop_program.specs.steps.Tells.{FaultIs, SaysFault};
 ghost use Rattle.loop_program.specs.Types as types;
 ghost use Rattle.loop_program.specs.Types.{AreRight, as_typed};
 
-use function_language::{Ident, Number};
 use hal_base::Memory;
 use name_index::NameIndex;
 use program_sketch::{
     Asked, ProgramFault, Sketch, StepSketches, StopSketch, TableSketch, TableSketches, What,
 };
+use program_tokens::{Ident, Number};
 use std::alloc::Global;
 use type_checker::{TypeFault, Typed, check};
 

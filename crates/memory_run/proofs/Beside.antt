@@ -2,7 +2,7 @@
 use Rattle.std.proofs.Common.{◌≡◌, ℕ, zero, suc, ◌+◌, ◌<◌, List, [], ◌∷◌, subst, length, get_or, arith}
 use Rattle.std.proofs.Math.ListN.{set}
 use Rattle.std.specs.List.{AllByRecursion}
-use Rattle.memory_run.specs.Supplies.{AllBeside}
+use Rattle.memory_run.specs.steps.Inputs.{AllBeside}
 
 module _ {A B : Type 0} (P : ℕ → A → B → Type 0) where
   -- one item of the second list changes

@@ -1,9 +1,10 @@
 pub mod Beside
-pub mod GivingUp
+pub mod Distances
 pub mod Keeping
-pub mod LastParts
 pub mod OneTable
 pub mod Parting
+pub mod Releasing
 pub mod Rounds
 pub mod Serving
 pub mod Splits
+pub mod Walking

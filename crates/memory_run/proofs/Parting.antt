@@ -12,28 +12,15 @@ use Rattle.hal_base.proofs.Strict.{sorted_same}
 use Rattle.plain_job.specs.Job.{job}
 use Rattle.plain_job.specs.Laws.{part}
 use Rattle.plain_job.specs.Chain.{numbers_from, part_out, together}
-use Rattle.plain_job.proofs.Keeps.{keeps}
-use Rattle.plain_job.proofs.Parted.{parts}
+use Rattle.plain_job.proofs.Sections.{sections_make_the_part}
 use Rattle.memory_run.specs.declared.sections.Spill.{Spill}
 use Rattle.memory_run.specs.declared.streams.Stream.{Stream}
-use Rattle.memory_run.specs.Steps.{first_section, later_sections, left_of, rows_of, sections}
-use Rattle.memory_run.specs.Supplies.{parts_made}
+use Rattle.memory_run.specs.steps.Sections.{first_section, later_sections, left_of, rows_of, sections}
+use Rattle.memory_run.specs.steps.Inputs.{parts_made}
 
 -- one section in order is its own merge
 pub alone_merged : (rows : List Record) (alone : List (List Record)) → alone ≡ rows ∷ [] → Ascending record_cmp rows → sorted record_cmp (together alone) ≡ rows
 alone_merged rows alone e a = rw (e, append-nil rows) (sorted_same record_cmp rows a)
-
-twice : (f g : List Record → List Record) (streams : List (List Record)) → map f (map g streams) ≡ map (λ rows. f (g rows)) streams
-twice f g [] = refl
-twice f g (rows ∷ streams) = ap (λ ys. f (g rows) ∷ ys) (twice f g streams)
-
--- the job of the sections of a part is the part of the job
-pub sections_make_the_part : (m : Meaning) (i j p : ℕ) (streams : List (List Record)) → job (m.reduce i j) (λ _. true) (map (λ rows. sorted record_cmp (part (λ key. m.partition i j key == p) rows)) streams) ≡ part_out m i j streams p
-sections_make_the_part m i j p streams =
-    let chosen : Value → Bool = λ key. m.partition i j key == p in
-    ap (job (m.reduce i j) (λ _. true)) (sym (twice (sorted record_cmp) (part chosen) streams))
-    ∙ keeps (m.reduce i j) (λ _. true) (map (part chosen) streams)
-    ∙ sym (parts (m.reduce i j) chosen streams)
 
 first_of : (m : Meaning) (i j p n : ℕ) (streams : List (List Record)) → map first_section (map (sections m i j p (suc n)) streams) ≡ map (λ rows. sorted record_cmp (part (λ key. m.partition i j key == p) rows)) streams
 first_of m i j p n [] = refl

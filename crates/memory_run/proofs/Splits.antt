@@ -8,7 +8,8 @@ use Rattle.hal_base.specs.Order.{record_cmp}
 use Rattle.hal_base.specs.Sorted.{sorted}
 use Rattle.plain_job.specs.Job.{stream}
 use Rattle.plain_job.specs.Chain.{together}
-use Rattle.partition_shuffle.specs.Spills.{dealt, spilled}
+use Rattle.partition_shuffle.specs.Spills.{spilled}
+use Rattle.partition_shuffle.specs.steps.Dealt.{dealt}
 use Rattle.partition_shuffle.proofs.Dealing.{length-dealt, dealt_twice, dealt_end, dealt_sorted}
 
 -- a map that emits each record as it is emits the records
@@ -17,37 +18,37 @@ stream_same means [] same = refl
 stream_same means (row ∷ rows) same = rw (same row, stream_same means rows same) refl
 
 -- what is dealt so far, and what these splits are to add, make the whole
-pub record Dealt (m : Meaning) (i j s n : ℕ) (spilling splits all : List (List Record)) : Type 0 where
-  pub many : length spilling ≡ n
-  pub left : dealt m i j 0 spilling (stream (m.map i j s) (together splits)) ≡ dealt m i j 0 (replicate n []) (stream (m.map i j s) (together all))
+pub record Dealt (m : Meaning) (i j s n : ℕ) (builder splits all : List (List Record)) : Type 0 where
+  pub many : length builder ≡ n
+  pub left : dealt m i j 0 builder (stream (m.map i j s) (together splits)) ≡ dealt m i j 0 (replicate n []) (stream (m.map i j s) (together all))
 
 module _ {m : Meaning} {i j s n : ℕ} where
-  pub none_dealt : (spilling all : List (List Record)) → spilling ≡ replicate n [] → Dealt m i j s n spilling all all
-  none_dealt spilling all e = record { many = ap length e ∙ length-replicate n []; left = ap (λ parts. dealt m i j 0 parts (stream (m.map i j s) (together all))) e }
+  pub none_dealt : (builder all : List (List Record)) → builder ≡ replicate n [] → Dealt m i j s n builder all all
+  none_dealt builder all e = record { many = ap length e ∙ length-replicate n []; left = ap (λ parts. dealt m i j 0 parts (stream (m.map i j s) (together all))) e }
 
-  pub one_dealt : {spilling before all : List (List Record)} (changed : List (List Record)) (rows : List Record) (splits : List (List Record)) → before ≡ rows ∷ splits → Dealt m i j s n spilling before all → changed ≡ dealt m i j 0 spilling (stream (m.map i j s) rows) → Dealt m i j s n changed splits all
-  one_dealt {spilling} changed rows splits next d made =
+  pub one_dealt : {builder before all : List (List Record)} (changed : List (List Record)) (rows : List Record) (splits : List (List Record)) → before ≡ rows ∷ splits → Dealt m i j s n builder before all → changed ≡ dealt m i j 0 builder (stream (m.map i j s) rows) → Dealt m i j s n changed splits all
+  one_dealt {builder} changed rows splits next d made =
       let means = m.map i j s in
       record {
-        many = ap length made ∙ length-dealt m i j 0 spilling (stream means rows) ∙ d.many;
+        many = ap length made ∙ length-dealt m i j 0 builder (stream means rows) ∙ d.many;
         left =
             ap (λ parts. dealt m i j 0 parts (stream means (together splits))) made
-            ∙ dealt_twice m i j 0 spilling (stream means rows) (stream means (together splits))
-            ∙ ap (dealt m i j 0 spilling) (sym (flat_map-append means rows (together splits)))
-            ∙ ap (λ xs. dealt m i j 0 spilling (stream means (together xs))) (sym next)
+            ∙ dealt_twice m i j 0 builder (stream means rows) (stream means (together splits))
+            ∙ ap (dealt m i j 0 builder) (sym (flat_map-append means rows (together splits)))
+            ∙ ap (λ xs. dealt m i j 0 builder (stream means (together xs))) (sym next)
             ∙ d.left;
       }
 
-  pub next_dealt : {spilling : List (List Record)} (changed all : List (List Record)) (k : ℕ) (rows : List Record) → k < length all → rows ≡ get_or all k rows → Dealt m i j s n spilling (drop k all) all → changed ≡ dealt m i j 0 spilling (stream (m.map i j s) rows) → Dealt m i j s n changed (drop (k + 1) all) all
-  next_dealt {spilling} changed all k rows l e d made =
+  pub next_dealt : {builder : List (List Record)} (changed all : List (List Record)) (k : ℕ) (rows : List Record) → k < length all → rows ≡ get_or all k rows → Dealt m i j s n builder (drop k all) all → changed ≡ dealt m i j 0 builder (stream (m.map i j s) rows) → Dealt m i j s n changed (drop (k + 1) all) all
+  next_dealt {builder} changed all k rows l e d made =
       let here : drop k all ≡ rows ∷ drop (k + 1) all = at_drop_more (λ xs. xs) all k rows l ∙ ap (λ x. x ∷ drop (k + 1) all) (sym e) in
       one_dealt changed rows (drop (k + 1) all) here d made
 
-  pub all_dealt : {spilling splits all : List (List Record)} → splits ≡ [] → Dealt m i j s n spilling splits all → map (sorted record_cmp) spilling ≡ spilled m i j s (together all) n
-  all_dealt {spilling} {splits} {all} none d =
+  pub all_dealt : {builder splits all : List (List Record)} → splits ≡ [] → Dealt m i j s n builder splits all → map (sorted record_cmp) builder ≡ spilled m i j s (together all) n
+  all_dealt {builder} {splits} {all} none d =
       let means = m.map i j s in
       let emitted : List Record = stream means (together all) in
-      let is : spilling ≡ dealt m i j 0 (replicate n []) emitted =
-      dealt_end m i j spilling (dealt m i j 0 (replicate n []) emitted) (stream means (together splits)) (ap (λ xs. stream means (together xs)) none) d.left
+      let is : builder ≡ dealt m i j 0 (replicate n []) emitted =
+      dealt_end m i j builder (dealt m i j 0 (replicate n []) emitted) (stream means (together splits)) (ap (λ xs. stream means (together xs)) none) d.left
       in
-      dealt_sorted m i j n emitted (replicate n []) spilling refl is
+      dealt_sorted m i j n emitted (replicate n []) builder refl is

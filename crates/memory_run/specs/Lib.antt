@@ -1,3 +1,1 @@
-pub mod Fits
-pub mod Steps
-pub mod Supplies
+pub mod steps

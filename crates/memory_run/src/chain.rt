@@ -1,31 +1,32 @@
-ghost use Rattle.std.specs.Prelude.{◌≡◌, ◌≤◌, [], List, length, IfOk};
+ghost use Rattle.std.specs.Prelude.{◌≡◌, List, length, IfOk};
 ghost use Rattle.hal_base.specs.declared.record.Record.{Record as Row};
-ghost use Rattle.plain_job.specs.Chain.{last_out, steps_out, together};
-ghost use Rattle.plain_job.specs.Plain.{FewSteps, IsPlainChain};
-ghost use Rattle.memory_run.specs.Fits.{Fits};
-ghost use Rattle.memory_run.specs.Steps as steps;
-ghost use Rattle.memory_run.specs.Supplies.{FewServed, Serve};
+ghost use Rattle.hal_base.specs.Shapes.{IsWellFormed};
+ghost use Rattle.plain_job.specs.Chain.{last_out, parts_from, together};
+ghost use Rattle.plain_job.specs.Ends.{IsPlainResult};
+ghost use Rattle.plain_job.specs.Fit.{FunctionsFit, TablesFit};
+ghost use Rattle.memory_run.specs.steps.Sections as steps;
+ghost use Rattle.memory_run.specs.steps.Inputs.{FewInEach, Serve};
 
 use crate::distance::distance_of;
 use crate::first::first_round;
+use crate::inputs::StepInputs;
 use crate::kept::plan_of;
 use crate::round::round_out;
-use crate::sources::Inputs;
-use crate::supply::Supplies;
+use crate::sources::RoundContext;
 use fixpoint_test::{Next, decide};
 use hal_base::{Functions, Memory, Parts, Records, Shape, Tables};
-use plain_job::{End, PlainChain};
+use plain_job::{End, PlainResult};
 use std::alloc::Global;
 
-/// The first round: the parts that it leaves, and the tables and supplies of the rounds after it.
+/// The first round: the parts that it leaves, and the tables and inputs of the rounds after it.
 #[derive(Drop)]
 struct Begun {
     tables: Vec<Records>,
-    plan: Vec<Supplies>,
+    plan: Vec<StepInputs>,
     parts: Parts,
 }
 
-/// The unrolled chain of a program, whose functions fit its shape. What a source has in all rounds is
+/// The unrolled chain of a program, whose functions and tables fit its shape. What a source has in all rounds is
 /// made once, a table that no source reads again is given up, and of the rounds only the last two are
 /// kept.
 /// docs/SEMANTICS.md, "The unrolled chain".
@@ -34,12 +35,11 @@ pub fn chain_in_memory<F: Functions>(
     functions: &F,
     shape: &Shape,
     tables: Tables,
-) -> Result<PlainChain, Memory>
-    requires parts { (1 ≤ shape.now.parts) × (shape.now.parts ≤ 64) }
-    requires rounds { 1 ≤ shape.now.rounds }
-    requires steps { (1 ≤ length shape.now.steps) × FewSteps shape.now.steps }
-    requires fits { Fits (F.meaning functions.now) shape.now }
-    ensures { IfOk result (IsPlainChain (F.meaning functions.now) shape.now tables) }
+) -> Result<PlainResult, Memory>
+    requires shape { IsWellFormed shape.now }
+    requires fits { FunctionsFit (F.meaning functions.now) shape.now }
+    requires tables { TablesFit shape.now tables }
+    ensures { IfOk result (IsPlainResult (F.meaning functions.now) shape.now tables) }
 {
     let Begun {
         tables: left,
@@ -50,7 +50,7 @@ pub fn chain_in_memory<F: Functions>(
     let mut next = decide(1, None, shape.threshold, shape.exact, shape.rounds);
     'rounds: loop {
         if let Some(end) = end_of(next) {
-            return Ok(PlainChain {
+            return Ok(PlainResult {
                 parts,
                 rounds: round,
                 end,
@@ -71,12 +71,10 @@ fn begin<F: Functions>(
     shape: &Shape,
     tables: Tables,
 ) -> Result<Begun, Memory>
-    requires parts { (1 ≤ shape.now.parts) × (shape.now.parts ≤ 64) }
-    requires steps { FewSteps shape.now.steps }
-    requires fits { Fits (F.meaning functions.now) shape.now }
-    ensures few { IfOk result (λ it. FewServed it.plan.items) }
+    requires shape { IsWellFormed shape.now }
+    ensures few { IfOk result (λ it. FewInEach it.plan.items) }
     ensures serve { IfOk result (λ it. Serve (F.meaning functions.now) shape.now tables it.tables.items it.plan.items) }
-    ensures parts { IfOk result (λ it. it.parts ≡ last_out (F.meaning functions.now) shape.now tables 0) }
+    ensures parts { IfOk result (λ it. it.parts ≡ last_out (F.meaning functions.now) shape.now tables 1) }
 {
     let mut tables = tables.into_vec();
     let left = tables.as_mut_slice();
@@ -95,21 +93,21 @@ fn later_round<F: Functions>(
     functions: &F,
     shape: &Shape,
     tables: &[Records],
-    plan: &[Supplies],
+    plan: &[StepInputs],
     round: u32,
     before: &Parts,
 ) -> Result<Parts, Memory>
-    requires fits { Fits (F.meaning functions.now) shape.now }
-    requires few { FewServed plan.now }
-    ensures { IfOk result (λ out. (real : List (List Row)) → Serve (F.meaning functions.now) shape.now real tables.now plan.now → out ≡ steps_out (F.meaning functions.now) shape.now real round 1 (together before.now) [] shape.now.steps) }
+    requires shape { IsWellFormed shape.now }
+    requires few { FewInEach plan.now }
+    ensures { IfOk result (λ out. (real : List (List Row)) → Serve (F.meaning functions.now) shape.now real tables.now plan.now → out ≡ parts_from (F.meaning functions.now) shape.now real round (together before.now) (length shape.now.steps)) }
 {
-    let inputs = Inputs {
+    let context = RoundContext {
         shape,
         tables,
         round,
         state: before.as_slice(),
     };
-    round_out(alloc, functions, &inputs, None, plan)
+    round_out(alloc, functions, &context, None, plan)
 }
 
 /// The end of a chain. `None` where there is another round.

@@ -1,9 +1,10 @@
-ghost use Rattle.std.specs.Prelude.{◌≡◌, ◌≤◌, length, min, sum, IfOk};
+ghost use Rattle.std.specs.Prelude.{◌≡◌, ℕ, List, min, sum, IfOk};
+ghost use Rattle.hal_base.specs.declared.record.Record.{Record as Row};
+ghost use Rattle.hal_base.specs.Shapes.{IsWellFormed};
 ghost use Rattle.plain_job.specs.Chain as chain;
-ghost use Rattle.plain_job.specs.Ends.{distance};
-ghost use Rattle.fixpoint_test.specs.Distances.{distance_by, part_distances};
-ghost use Rattle.memory_run.specs.Fits.{Fits};
-ghost use Rattle.memory_run.specs.Steps.{AreLeftBy};
+ghost use Rattle.plain_job.specs.Distances.{distance, distance_by, part_distances};
+ghost use Rattle.plain_job.specs.Fit.{FunctionsFit, TablesFit};
+ghost use Rattle.memory_run.specs.steps.Rounds.{AreLeft};
 
 use fixpoint_test::{global_distance, part_distance};
 use hal_base::{Functions, Memory, Parts, Records, Shape};
@@ -18,11 +19,11 @@ pub(crate) fn distance_of<F: Functions>(
     old: &Parts,
     new: &Parts,
 ) -> Result<u64, Memory>
-    requires fits { Fits (F.meaning functions.now) shape.now }
-    requires few { length shape.now.steps ≤ 8 }
-    requires old { AreLeftBy (F.meaning functions.now) shape.now (length shape.now.steps) old.now }
-    requires new { AreLeftBy (F.meaning functions.now) shape.now (length shape.now.steps) new.now }
-    ensures { IfOk result (λ far. far ≡ distance (F.meaning functions.now) shape.now (chain.together old.now) (chain.together new.now)) }
+    requires shape { IsWellFormed shape.now }
+    requires fits { FunctionsFit (F.meaning functions.now) shape.now }
+    ensures { IfOk result (λ far. (tables : List (List Row)) (i j : ℕ) → TablesFit shape.now tables
+        → AreLeft (F.meaning functions.now) shape.now tables i old.now → AreLeft (F.meaning functions.now) shape.now tables j new.now
+        → far ≡ distance (F.meaning functions.now) shape.now (chain.together old.now) (chain.together new.now)) }
 {
     let last = shape.steps.len() as u32;
     // Then each key stands in one part alone, which is the same in both rounds.

@@ -1,15 +1,15 @@
-ghost use Rattle.std.specs.Prelude.{◌≡◌, ◌≤◌, [], true, List, IfOk, OnOk};
+ghost use Rattle.std.specs.Prelude.{◌≡◌, true, List, length, IfOk, OnOk};
+ghost use Rattle.hal_base.specs.Shapes.{IsWellFormed};
 ghost use Rattle.hal_base.specs.declared.record.Record.{Record as Row};
-ghost use Rattle.plain_job.specs.Chain.{steps_out, table_at};
+ghost use Rattle.plain_job.specs.Chain.{parts_from, table_at};
 ghost use Rattle.partition_shuffle.specs.Spills.{spilled};
-ghost use Rattle.memory_run.specs.Fits.{Fits};
-ghost use Rattle.memory_run.specs.Supplies.{FewServed, Serve, UsesUp};
+ghost use Rattle.memory_run.specs.steps.Inputs.{FewInEach, Serve, ReadsStateOnce};
 
-use crate::give_up::{give_up, taken};
+use crate::inputs::{StepInputs, any_reads, is_read};
+use crate::release::{release, take_table};
 use crate::round::round_out;
 use crate::sections::Sections;
-use crate::sources::{Inputs, table_splits};
-use crate::supply::{Supplies, any_reads, is_read};
+use crate::sources::{RoundContext, table_splits};
 use hal_base::{Functions, Memory, Origin, Parts, Records, Shape};
 use partition_shuffle::spill;
 use std::alloc::Global;
@@ -20,26 +20,25 @@ pub(crate) fn first_round<F: Functions>(
     alloc: Global,
     functions: &F,
     shape: &Shape,
-    plan: &[Supplies],
+    plan: &[StepInputs],
     tables: &mut [Records],
 ) -> Result<Parts, Memory>
-    requires fits { Fits (F.meaning functions.now) shape.now }
-    requires parts { (1 ≤ shape.now.parts) × (shape.now.parts ≤ 64) }
-    requires few { FewServed plan.now }
-    ensures out { IfOk result (λ out. (real : List (List Row)) → Serve (F.meaning functions.now) shape.now real tables.old plan.now → out ≡ steps_out (F.meaning functions.now) shape.now real 1 1 (table_at tables.old shape.now.start) [] shape.now.steps) }
+    requires shape { IsWellFormed shape.now }
+    requires few { FewInEach plan.now }
+    ensures out { IfOk result (λ out. (real : List (List Row)) → Serve (F.meaning functions.now) shape.now real tables.old plan.now → out ≡ parts_from (F.meaning functions.now) shape.now real 1 (table_at tables.old shape.now.start) (length shape.now.steps)) }
     ensures serve { OnOk result ((real : List (List Row)) → Serve (F.meaning functions.now) shape.now real tables.old plan.now → Serve (F.meaning functions.now) shape.now real tables.new plan.now) }
 {
-    if uses_up(shape.start, plan) {
-        return round_that_uses_up(alloc, functions, shape, plan, tables);
+    if reads_state_once(shape.start, plan) {
+        return round_that_takes(alloc, functions, shape, plan, tables);
     }
     let out = round_over(alloc, functions, shape, plan, tables)?;
-    give_up(alloc, shape.start, tables, plan);
+    release(alloc, shape.start, tables, plan);
     Ok(out)
 }
 
 /// Whether the start table is read once, as the state and by the first source of all.
-fn uses_up(start: u32, plan: &[Supplies]) -> bool
-    ensures { result ≡ true → UsesUp start plan.now }
+fn reads_state_once(start: u32, plan: &[StepInputs]) -> bool
+    ensures { result ≡ true → ReadsStateOnce start plan.now }
 {
     let Some((step, later)) = plan.split_first() else {
         return false;
@@ -58,29 +57,28 @@ fn uses_up(start: u32, plan: &[Supplies]) -> bool
 }
 
 /// The first round, where the start table goes as soon as it is mapped.
-fn round_that_uses_up<F: Functions>(
+fn round_that_takes<F: Functions>(
     alloc: Global,
     functions: &F,
     shape: &Shape,
-    plan: &[Supplies],
+    plan: &[StepInputs],
     tables: &mut [Records],
 ) -> Result<Parts, Memory>
-    requires fits { Fits (F.meaning functions.now) shape.now }
-    requires parts { (1 ≤ shape.now.parts) × (shape.now.parts ≤ 64) }
-    requires few { FewServed plan.now }
-    requires once { UsesUp shape.now.start plan.now }
-    ensures out { IfOk result (λ out. (real : List (List Row)) → Serve (F.meaning functions.now) shape.now real tables.old plan.now → out ≡ steps_out (F.meaning functions.now) shape.now real 1 1 (table_at tables.old shape.now.start) [] shape.now.steps) }
+    requires shape { IsWellFormed shape.now }
+    requires few { FewInEach plan.now }
+    requires once { ReadsStateOnce shape.now.start plan.now }
+    ensures out { IfOk result (λ out. (real : List (List Row)) → Serve (F.meaning functions.now) shape.now real tables.old plan.now → out ≡ parts_from (F.meaning functions.now) shape.now real 1 (table_at tables.old shape.now.start) (length shape.now.steps)) }
     ensures serve { OnOk result ((real : List (List Row)) → Serve (F.meaning functions.now) shape.now real tables.old plan.now → Serve (F.meaning functions.now) shape.now real tables.new plan.now) }
 {
-    let start = taken(alloc, shape.start, tables);
+    let start = take_table(alloc, shape.start, tables);
     let sections = start_sections(alloc, functions, shape, start)?;
-    let inputs = Inputs {
+    let context = RoundContext {
         shape,
         tables,
         round: 1,
         state: &[],
     };
-    round_out(alloc, functions, &inputs, Some(sections), plan)
+    round_out(alloc, functions, &context, Some(sections), plan)
 }
 
 /// The sections of the first source where it reads the start table, which then goes.
@@ -90,8 +88,7 @@ fn start_sections<F: Functions>(
     shape: &Shape,
     start: Records,
 ) -> Result<Sections, Memory>
-    requires fits { Fits (F.meaning functions.now) shape.now }
-    requires parts { (1 ≤ shape.now.parts) × (shape.now.parts ≤ 64) }
+    requires shape { IsWellFormed shape.now }
     ensures { IfOk result (λ sections. sections ≡ spilled (F.meaning functions.now) 1 1 1 start shape.now.parts) }
 {
     let parts = spill(alloc, functions, 1, 1, 1, &start, shape.parts)?;
@@ -103,18 +100,18 @@ fn round_over<F: Functions>(
     alloc: Global,
     functions: &F,
     shape: &Shape,
-    plan: &[Supplies],
+    plan: &[StepInputs],
     tables: &[Records],
 ) -> Result<Parts, Memory>
-    requires fits { Fits (F.meaning functions.now) shape.now }
-    requires few { FewServed plan.now }
-    ensures { IfOk result (λ out. (real : List (List Row)) → Serve (F.meaning functions.now) shape.now real tables.now plan.now → out ≡ steps_out (F.meaning functions.now) shape.now real 1 1 (table_at tables.now shape.now.start) [] shape.now.steps) }
+    requires shape { IsWellFormed shape.now }
+    requires few { FewInEach plan.now }
+    ensures { IfOk result (λ out. (real : List (List Row)) → Serve (F.meaning functions.now) shape.now real tables.now plan.now → out ≡ parts_from (F.meaning functions.now) shape.now real 1 (table_at tables.now shape.now.start) (length shape.now.steps)) }
 {
-    let inputs = Inputs {
+    let context = RoundContext {
         shape,
         tables,
         round: 1,
         state: table_splits(tables, shape.start),
     };
-    round_out(alloc, functions, &inputs, None, plan)
+    round_out(alloc, functions, &context, None, plan)
 }

@@ -1,18 +1,17 @@
-ghost use Rattle.std.specs.Prelude.{◌≡◌, ◌≤◌, ℕ, true, false, List, None, IfOk, OnOk};
+ghost use Rattle.std.specs.Prelude.{◌≡◌, ℕ, true, List, None, IfOk, OnOk};
+ghost use Rattle.hal_base.specs.Shapes.{IsWellFormed, MayBeKept};
 ghost use Rattle.hal_base.specs.declared.record.Record.{Record as Row};
 ghost use Rattle.hal_base.specs.declared.shape.Origin.{Origin as Place};
 ghost use Rattle.hal_base.specs.declared.shape.Origin.TheVariants as origin;
 ghost use Rattle.hal_base.specs.declared.shape.Source.{Source};
 ghost use Rattle.plain_job.specs.Chain.{table_at};
-ghost use Rattle.plain_job.specs.Plain.{FewSteps};
 ghost use Rattle.partition_shuffle.specs.Spills.{spilled};
-ghost use Rattle.memory_run.specs.declared.supply.Supply.TheVariants as given;
-ghost use Rattle.memory_run.specs.Fits.{Fits};
-ghost use Rattle.memory_run.specs.Supplies.{FewServed, FewSupplies, Serve, ServeStep, Serves};
+ghost use Rattle.memory_run.specs.declared.inputs.Input.TheVariants as given;
+ghost use Rattle.memory_run.specs.steps.Inputs.{FewInEach, FewInputs, Serve, ServeStep, Serves};
 
-use crate::give_up::give_up;
+use crate::inputs::{Input, StepInputs, all_read};
+use crate::release::release;
 use crate::sections::Sections;
-use crate::supply::{Supplies, Supply, all_read};
 use hal_base::{Functions, Memory, Origin, Records, Shape};
 use partition_shuffle::spill;
 use std::alloc::Global;
@@ -32,11 +31,9 @@ pub(crate) fn plan_of<F: Functions>(
     functions: &F,
     shape: &Shape,
     tables: &mut [Records],
-) -> Result<Vec<Supplies>, Memory>
-    requires fits { Fits (F.meaning functions.now) shape.now }
-    requires parts { (1 ≤ shape.now.parts) × (shape.now.parts ≤ 64) }
-    requires few { FewSteps shape.now.steps }
-    ensures few { IfOk result (λ plan. FewServed plan.items) }
+) -> Result<Vec<StepInputs>, Memory>
+    requires shape { IsWellFormed shape.now }
+    ensures few { IfOk result (λ plan. FewInEach plan.items) }
     ensures serve { IfOk result (λ plan. Serve (F.meaning functions.now) shape.now tables.old tables.new plan.items) }
     ensures start { OnOk result (table_at tables.new shape.now.start ≡ table_at tables.old shape.now.start) }
 {
@@ -52,12 +49,11 @@ fn keep_tables<F: Functions>(
     functions: &F,
     shape: &Shape,
     tables: &mut [Records],
-    plan: &mut [Supplies],
+    plan: &mut [StepInputs],
 ) -> Result<(), Memory>
-    requires fits { Fits (F.meaning functions.now) shape.now }
-    requires parts { (1 ≤ shape.now.parts) × (shape.now.parts ≤ 64) }
-    requires few { FewServed plan.old }
-    ensures few { OnOk result (FewServed plan.new) }
+    requires shape { IsWellFormed shape.now }
+    requires few { FewInEach plan.old }
+    ensures few { OnOk result (FewInEach plan.new) }
     ensures serve { OnOk result ((real : List (List Row)) → Serve (F.meaning functions.now) shape.now real tables.old plan.old → Serve (F.meaning functions.now) shape.now real tables.new plan.new) }
     ensures start { OnOk result (table_at tables.new shape.now.start ≡ table_at tables.old shape.now.start) }
 {
@@ -75,19 +71,18 @@ fn keep_table<F: Functions>(
     shape: &Shape,
     number: u32,
     tables: &mut [Records],
-    plan: &mut [Supplies],
+    plan: &mut [StepInputs],
 ) -> Result<(), Memory>
-    requires fits { Fits (F.meaning functions.now) shape.now }
-    requires parts { (1 ≤ shape.now.parts) × (shape.now.parts ≤ 64) }
-    requires few { FewServed plan.old }
-    ensures few { OnOk result (FewServed plan.new) }
+    requires shape { IsWellFormed shape.now }
+    requires few { FewInEach plan.old }
+    ensures few { OnOk result (FewInEach plan.new) }
     ensures serve { OnOk result ((real : List (List Row)) → Serve (F.meaning functions.now) shape.now real tables.old plan.old → Serve (F.meaning functions.now) shape.now real tables.new plan.new) }
     ensures start { OnOk result (table_at tables.new shape.now.start ≡ table_at tables.old shape.now.start) }
 {
     keep_sections(alloc, functions, shape, number, tables, plan)?;
     // The first round has yet to read the start table as its state.
     if number != shape.start {
-        give_up(alloc, number, tables, plan);
+        release(alloc, number, tables, plan);
     }
     Ok(())
 }
@@ -99,12 +94,11 @@ fn keep_sections<F: Functions>(
     shape: &Shape,
     number: u32,
     tables: &[Records],
-    plan: &mut [Supplies],
+    plan: &mut [StepInputs],
 ) -> Result<(), Memory>
-    requires fits { Fits (F.meaning functions.now) shape.now }
-    requires parts { (1 ≤ shape.now.parts) × (shape.now.parts ≤ 64) }
-    requires few { FewServed plan.old }
-    ensures few { OnOk result (FewServed plan.new) }
+    requires shape { IsWellFormed shape.now }
+    requires few { FewInEach plan.old }
+    ensures few { OnOk result (FewInEach plan.new) }
     ensures serve { OnOk result ((real : List (List Row)) → Serve (F.meaning functions.now) shape.now real tables.now plan.old → Serve (F.meaning functions.now) shape.now real tables.now plan.new) }
 {
     let Some(rows) = tables.get(number as usize) else {
@@ -123,19 +117,18 @@ fn keep_in_steps<F: Functions>(
     alloc: Global,
     functions: &F,
     table: &Numbered,
-    plan: &mut [Supplies],
+    plan: &mut [StepInputs],
 ) -> Result<(), Memory>
-    requires fits { Fits (F.meaning functions.now) table.now.shape.now }
-    requires parts { (1 ≤ table.now.shape.now.parts) × (table.now.shape.now.parts ≤ 64) }
-    requires few { FewServed plan.old }
-    ensures few { OnOk result (FewServed plan.new) }
+    requires shape { IsWellFormed table.now.shape.now }
+    requires few { FewInEach plan.old }
+    ensures few { OnOk result (FewInEach plan.new) }
     ensures serve { OnOk result ((real left : List (List Row)) → table.now.rows.now ≡ table_at left table.now.number → Serve (F.meaning functions.now) table.now.shape.now real left plan.old → Serve (F.meaning functions.now) table.now.shape.now real left plan.new) }
 {
     let mut step: u32 = 0;
     'steps: while (step as usize) < plan.len() {
-        let supplies = &mut plan[step as usize];
+        let inputs = &mut plan[step as usize];
         step += 1;
-        keep_in_step(alloc, functions, table, step, &mut supplies.all)?;
+        keep_in_step(alloc, functions, table, step, &mut inputs.all)?;
     }
     Ok(())
 }
@@ -146,21 +139,20 @@ fn keep_in_step<F: Functions>(
     functions: &F,
     table: &Numbered,
     step: u32,
-    supplies: &mut [Supply],
+    inputs: &mut [Input],
 ) -> Result<(), Memory>
-    requires fits { Fits (F.meaning functions.now) table.now.shape.now }
-    requires parts { (1 ≤ table.now.shape.now.parts) × (table.now.shape.now.parts ≤ 64) }
-    requires few { FewSupplies supplies.old }
-    ensures few { OnOk result (FewSupplies supplies.new) }
+    requires shape { IsWellFormed table.now.shape.now }
+    requires few { FewInputs inputs.old }
+    ensures few { OnOk result (FewInputs inputs.new) }
     ensures serve { OnOk result ((rows left : Place → List Row) (i : ℕ) (sources : List Source) → table.now.rows.now ≡ left (origin.Table table.now.number None)
-        → ServeStep (F.meaning functions.now) table.now.shape.now.parts rows left i step sources supplies.old
-        → ServeStep (F.meaning functions.now) table.now.shape.now.parts rows left i step sources supplies.new) }
+        → ServeStep (F.meaning functions.now) table.now.shape.now.parts rows left i step sources inputs.old
+        → ServeStep (F.meaning functions.now) table.now.shape.now.parts rows left i step sources inputs.new) }
 {
     let mut source: u32 = 0;
-    'sources: while (source as usize) < supplies.len() {
-        let supply = &mut supplies[source as usize];
+    'sources: while (source as usize) < inputs.len() {
+        let input = &mut inputs[source as usize];
         source += 1;
-        keep_source(alloc, functions, table, step, source, supply)?;
+        keep_source(alloc, functions, table, step, source, input)?;
     }
     Ok(())
 }
@@ -172,41 +164,34 @@ fn keep_source<F: Functions>(
     table: &Numbered,
     step: u32,
     source: u32,
-    supply: &mut Supply,
+    input: &mut Input,
 ) -> Result<(), Memory>
-    requires fits { Fits (F.meaning functions.now) table.now.shape.now }
-    requires parts { (1 ≤ table.now.shape.now.parts) × (table.now.shape.now.parts ≤ 64) }
+    requires shape { IsWellFormed table.now.shape.now }
     ensures { OnOk result ((rows left : Place → List Row) (i : ℕ) (from : Source) → table.now.rows.now ≡ left (origin.Table table.now.number None)
-        → Serves (F.meaning functions.now) table.now.shape.now.parts rows left i step source from supply.old
-        → Serves (F.meaning functions.now) table.now.shape.now.parts rows left i step source from supply.new) }
+        → Serves (F.meaning functions.now) table.now.shape.now.parts rows left i step source from input.old
+        → Serves (F.meaning functions.now) table.now.shape.now.parts rows left i step source from input.new) }
 {
-    if is_kept(functions, table.number, step, source, supply) {
+    if is_kept(functions, table.number, step, source, input) {
         let sections = table_sections(alloc, functions, table, step, source)?;
-        *supply = Supply::Kept(sections);
+        *input = Input::Kept(sections);
     }
     Ok(())
 }
 
 /// Whether a source reads a table in each round, and by a map and into parts that are the same in each.
-fn is_kept<F: Functions>(
-    functions: &F,
-    number: u32,
-    step: u32,
-    source: u32,
-    supply: &Supply,
-) -> bool
-    ensures { result ≡ true → (supply.now ≡ given.Read (origin.Table number None)) × ((F.meaning functions.now).map_uses_round step source ≡ false) × ((F.meaning functions.now).partition_uses_round step ≡ false) }
+fn is_kept<F: Functions>(functions: &F, number: u32, step: u32, source: u32, input: &Input) -> bool
+    ensures { result ≡ true → (input.now ≡ given.Read (origin.Table number None)) × MayBeKept (origin.Table number None) ((F.meaning functions.now).map_uses_round step source) ((F.meaning functions.now).partition_uses_round step) }
 {
-    reads_always(number, supply)
+    reads_always(number, input)
         && !functions.map_uses_round(step, source)
         && !functions.partition_uses_round(step)
 }
 
-fn reads_always(number: u32, it: &Supply) -> bool
+fn reads_always(number: u32, it: &Input) -> bool
     ensures { result ≡ true → it.now ≡ given.Read (origin.Table number None) }
 {
     match it {
-        Supply::Read(Origin::Table { table, only: None }) => *table == number,
+        Input::Read(Origin::Table { table, only: None }) => *table == number,
         _ => false,
     }
 }
@@ -219,8 +204,7 @@ fn table_sections<F: Functions>(
     step: u32,
     source: u32,
 ) -> Result<Sections, Memory>
-    requires fits { Fits (F.meaning functions.now) table.now.shape.now }
-    requires parts { (1 ≤ table.now.shape.now.parts) × (table.now.shape.now.parts ≤ 64) }
+    requires shape { IsWellFormed table.now.shape.now }
     ensures { IfOk result (λ sections. sections ≡ spilled (F.meaning functions.now) 1 step source table.now.rows.now table.now.shape.now.parts) }
 {
     let parts = spill(

@@ -4,12 +4,12 @@
 mod chain;
 mod distance;
 mod first;
-mod give_up;
+mod inputs;
 mod kept;
+mod release;
 mod round;
 mod sections;
 mod sources;
 mod streams;
-mod supply;
 
 pub use chain::chain_in_memory;

@@ -1,13 +1,13 @@
 ghost use Rattle.std.specs.Prelude.{◌≡◌, [], true, map, IfOk, OnOk};
+ghost use Rattle.hal_base.specs.Shapes.{IsWellFormed};
 ghost use Rattle.plain_job.specs.Chain.{source_rows, together};
 ghost use Rattle.plain_job.specs.Job.{job};
-ghost use Rattle.memory_run.specs.Fits.{Fits};
-ghost use Rattle.memory_run.specs.Steps.{first_section, later_sections, left_of};
-ghost use Rattle.memory_run.specs.Supplies.{FewServed, FewSupplies, plan_made, step_made, with_first, with_made};
+ghost use Rattle.memory_run.specs.steps.Sections.{first_section, later_sections, left_of};
+ghost use Rattle.memory_run.specs.steps.Inputs.{FewInEach, FewInputs, plan_made, step_made, with_first, with_made};
 
+use crate::inputs::{Input, StepInputs};
 use crate::sections::{Sections, Spill, take_sections};
-use crate::sources::{Inputs, spills_of};
-use crate::supply::{Supplies, Supply};
+use crate::sources::{RoundContext, spills_of};
 use group_reduce::reduce_part;
 use hal_base::{Functions, Memory, Parts, Records};
 use std::alloc::Global;
@@ -17,28 +17,28 @@ use std::alloc::Global;
 pub(crate) fn round_out<F: Functions>(
     alloc: Global,
     functions: &F,
-    inputs: &Inputs,
+    context: &RoundContext,
     made: Option<Sections>,
-    plan: &[Supplies],
+    plan: &[StepInputs],
 ) -> Result<Parts, Memory>
-    requires fits { Fits (F.meaning functions.now) inputs.now.shape.now }
-    requires few { FewServed plan.now }
-    ensures { IfOk result (λ out. out ≡ plan_made (F.meaning functions.now) inputs.now.shape.now.parts inputs.now.tables.now inputs.now.round 1 (together inputs.now.state.now) [] (with_made made plan.now)) }
+    requires shape { IsWellFormed context.now.shape.now }
+    requires few { FewInEach plan.now }
+    ensures { IfOk result (λ out. out ≡ plan_made (F.meaning functions.now) context.now.shape.now.parts context.now.tables.now context.now.round 1 (together context.now.state.now) [] (with_made made plan.now)) }
 {
     let mut out = Parts::new(alloc);
     let mut made = made;
     let mut number: u32 = 0;
-    'steps: for supplies in plan {
+    'steps: for sources in plan {
         number += 1;
         let first = made.take();
         out = step_out(
             alloc,
             functions,
-            inputs,
+            context,
             number,
             first,
             out,
-            supplies.as_slice(),
+            sources.as_slice(),
         )?;
     }
     Ok(out)
@@ -48,21 +48,21 @@ pub(crate) fn round_out<F: Functions>(
 fn step_out<F: Functions>(
     alloc: Global,
     functions: &F,
-    inputs: &Inputs,
+    context: &RoundContext,
     number: u32,
     made: Option<Sections>,
     before: Parts,
-    supplies: &[Supply],
+    inputs: &[Input],
 ) -> Result<Parts, Memory>
-    requires fits { Fits (F.meaning functions.now) inputs.now.shape.now }
-    requires few { FewSupplies supplies.now }
-    ensures { IfOk result (λ out. out ≡ step_made (F.meaning functions.now) inputs.now.shape.now.parts (source_rows inputs.now.tables.now inputs.now.round (together inputs.now.state.now) (together before)) inputs.now.round number (with_first made supplies.now)) }
+    requires shape { IsWellFormed context.now.shape.now }
+    requires few { FewInputs inputs.now }
+    ensures { IfOk result (λ out. out ≡ step_made (F.meaning functions.now) context.now.shape.now.parts (source_rows context.now.tables.now context.now.round (together context.now.state.now) (together before)) context.now.round number (with_first made inputs.now)) }
 {
-    let mut spills = spills_of(alloc, functions, inputs, number, made, before, supplies)?;
-    let parts = inputs.shape.parts;
+    let mut spills = spills_of(alloc, functions, context, number, made, before, inputs)?;
+    let parts = context.shape.parts;
     let mut out = Parts::with_capacity(alloc, parts as usize)?;
     'parts: for _part in 0..parts {
-        out.push(next_part(alloc, functions, inputs.round, number, &mut spills)?)?;
+        out.push(next_part(alloc, functions, context.round, number, &mut spills)?)?;
     }
     Ok(out)
 }

@@ -2,11 +2,11 @@ ghost use Rattle.std.specs.Prelude.{◌≡◌, map, IfOk, OnOk};
 ghost use Rattle.std.specs.List.{AllByRecursion};
 ghost use Rattle.hal_base.specs.Order.{record_cmp};
 ghost use Rattle.hal_base.specs.Sorted.{Ascending, sorted};
-ghost use Rattle.memory_run.specs.Steps.{first_section, later_sections, left_of, rows_of};
+ghost use Rattle.memory_run.specs.steps.Sections.{first_section, later_sections, left_of, rows_of};
 
-use crate::streams::{Stream, Walk};
-use hal_base::{Memory, Parts, Records};
-use partition_shuffle::{Merged, Spilling, merge};
+use crate::streams::Stream;
+use hal_base::{Memory, Parts, Records, SortedSlice};
+use partition_shuffle::{Merged, SpillBuilder, merge};
 use std::alloc::Global;
 use std::collections::VecDeque;
 use std::marker::Model;
@@ -39,10 +39,10 @@ impl Sections {
         Sections { parts }
     }
 
-    pub(crate) fn finished(alloc: Global, spilling: Spilling) -> Result<Sections, Memory>
-        ensures { IfOk result (λ found. found ≡ map (sorted record_cmp) spilling) }
+    pub(crate) fn finished(alloc: Global, builder: SpillBuilder) -> Result<Sections, Memory>
+        ensures { IfOk result (λ found. found ≡ map (sorted record_cmp) builder) }
     {
-        let parts = spilling.finish(alloc)?;
+        let parts = builder.finish(alloc)?;
         Ok(Sections { parts })
     }
 
@@ -137,15 +137,15 @@ impl<'a> Model for Lent<'a> {
 
 impl<'a> Lent<'a> {
     /// Takes the first section. It has no records where none is left.
-    fn take_first(&mut self) -> Walk<'a>
+    fn take_first(&mut self) -> SortedSlice<'a>
         ensures first { result ≡ first_section self.old }
         ensures later { self.new ≡ later_sections self.old }
     {
         let Some((first, others)) = self.left.split_first() else {
-            return Walk::new(&[]);
+            return SortedSlice::new(&[]);
         };
         self.left = others;
-        Walk::new(first.as_slice())
+        SortedSlice::new(first.as_slice())
     }
 }
 

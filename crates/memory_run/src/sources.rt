@@ -1,20 +1,21 @@
 ghost use Rattle.std.specs.Prelude.{◌≡◌, ◌≤◌, [], map, IfOk, OnOk, length};
+ghost use Rattle.hal_base.specs.Shapes.{IsWellFormed};
 ghost use Rattle.plain_job.specs.Chain.{source_rows, table_at, together};
 ghost use Rattle.plain_job.specs.Job.{stream};
-ghost use Rattle.partition_shuffle.specs.Spills.{dealt, spilled};
-ghost use Rattle.memory_run.specs.Fits.{Fits};
-ghost use Rattle.memory_run.specs.Steps.{left_of};
-ghost use Rattle.memory_run.specs.Supplies.{FewSupplies, all_given, given, with_first};
+ghost use Rattle.partition_shuffle.specs.Spills.{spilled};
+ghost use Rattle.partition_shuffle.specs.steps.Dealt.{dealt};
+ghost use Rattle.memory_run.specs.steps.Sections.{left_of};
+ghost use Rattle.memory_run.specs.steps.Inputs.{FewInputs, all_given, given, with_first};
 
+use crate::inputs::Input;
 use crate::sections::{Sections, Spill};
-use crate::supply::Supply;
 use hal_base::{Functions, Memory, Origin, Parts, Records, Shape};
-use partition_shuffle::Spilling;
+use partition_shuffle::SpillBuilder;
 use std::alloc::Global;
 
 /// What stays the same in a round. The state is in splits, and so is each other source.
 #[derive(Drop)]
-pub(crate) struct Inputs<'a> {
+pub(crate) struct RoundContext<'a> {
     pub(crate) shape: &'a Shape,
     pub(crate) tables: &'a [Records],
     pub(crate) round: u32,
@@ -25,24 +26,24 @@ pub(crate) struct Inputs<'a> {
 pub(crate) fn spills_of<'a, F: Functions>(
     alloc: Global,
     functions: &F,
-    inputs: &Inputs,
+    context: &RoundContext,
     step: u32,
     made: Option<Sections>,
     before: Parts,
-    supplies: &'a [Supply],
+    inputs: &'a [Input],
 ) -> Result<Vec<Spill<'a>>, Memory>
-    requires fits { Fits (F.meaning functions.now) inputs.now.shape.now }
-    requires few { FewSupplies supplies.now }
-    ensures { IfOk result (λ spills. map left_of spills.items ≡ all_given (F.meaning functions.now) inputs.now.shape.now.parts (source_rows inputs.now.tables.now inputs.now.round (together inputs.now.state.now) (together before)) inputs.now.round step 1 (with_first made supplies.now)) }
+    requires shape { IsWellFormed context.now.shape.now }
+    requires few { FewInputs inputs.now }
+    ensures { IfOk result (λ spills. map left_of spills.items ≡ all_given (F.meaning functions.now) context.now.shape.now.parts (source_rows context.now.tables.now context.now.round (together context.now.state.now) (together before)) context.now.round step 1 (with_first made inputs.now)) }
 {
-    let Some((first, others)) = supplies.split_first() else {
+    let Some((first, others)) = inputs.split_first() else {
         return Ok(Vec::new(alloc));
     };
     // The first comes last, since it may be the one that uses up what stands before.
-    let mut spills = spill_others(alloc, functions, inputs, step, before.as_slice(), others)?;
+    let mut spills = spill_others(alloc, functions, context, step, before.as_slice(), others)?;
     let spill = match made {
         Some(sections) => sections.into_spill(),
-        None => spill_first(alloc, functions, inputs, step, before, first)?,
+        None => spill_first(alloc, functions, context, step, before, first)?,
     };
     spills.insert(0, spill)?;
     Ok(spills)
@@ -52,20 +53,20 @@ pub(crate) fn spills_of<'a, F: Functions>(
 fn spill_others<'a, F: Functions>(
     alloc: Global,
     functions: &F,
-    inputs: &Inputs,
+    context: &RoundContext,
     step: u32,
     before: &[Records],
-    others: &'a [Supply],
+    others: &'a [Input],
 ) -> Result<Vec<Spill<'a>>, Memory>
-    requires fits { Fits (F.meaning functions.now) inputs.now.shape.now }
+    requires shape { IsWellFormed context.now.shape.now }
     requires few { length others.now ≤ 7 }
-    ensures { IfOk result (λ spills. map left_of spills.items ≡ all_given (F.meaning functions.now) inputs.now.shape.now.parts (source_rows inputs.now.tables.now inputs.now.round (together inputs.now.state.now) (together before.now)) inputs.now.round step 2 others.now) }
+    ensures { IfOk result (λ spills. map left_of spills.items ≡ all_given (F.meaning functions.now) context.now.shape.now.parts (source_rows context.now.tables.now context.now.round (together context.now.state.now) (together before.now)) context.now.round step 2 others.now) }
 {
     let mut spills = Vec::new(alloc);
     let mut number: u32 = 1;
-    'sources: for supply in others {
+    'sources: for input in others {
         number += 1;
-        let spill = spill_source(alloc, functions, inputs, step, number, before, supply)?;
+        let spill = spill_source(alloc, functions, context, step, number, before, input)?;
         spills.push(spill)?;
     }
     Ok(spills)
@@ -76,39 +77,39 @@ fn spill_others<'a, F: Functions>(
 fn spill_first<'a, F: Functions>(
     alloc: Global,
     functions: &F,
-    inputs: &Inputs,
+    context: &RoundContext,
     step: u32,
     before: Parts,
-    supply: &'a Supply,
+    input: &'a Input,
 ) -> Result<Spill<'a>, Memory>
-    requires { Fits (F.meaning functions.now) inputs.now.shape.now }
-    ensures { IfOk result (λ spill. left_of spill ≡ given (F.meaning functions.now) inputs.now.shape.now.parts (source_rows inputs.now.tables.now inputs.now.round (together inputs.now.state.now) (together before)) inputs.now.round step 1 supply.now) }
+    requires { IsWellFormed context.now.shape.now }
+    ensures { IfOk result (λ spill. left_of spill ≡ given (F.meaning functions.now) context.now.shape.now.parts (source_rows context.now.tables.now context.now.round (together context.now.state.now) (together before)) context.now.round step 1 input.now) }
 {
-    if let Supply::Read(Origin::Prev) = supply {
-        let sections = spill_parts(alloc, functions, inputs, step, before)?;
+    if let Input::Read(Origin::Prev) = input {
+        let sections = spill_parts(alloc, functions, context, step, before)?;
         return Ok(sections.into_spill());
     }
-    spill_source(alloc, functions, inputs, step, 1, before.as_slice(), supply)
+    spill_source(alloc, functions, context, step, 1, before.as_slice(), input)
 }
 
 /// The spill of a source.
 fn spill_source<'a, F: Functions>(
     alloc: Global,
     functions: &F,
-    inputs: &Inputs,
+    context: &RoundContext,
     step: u32,
     source: u32,
     before: &[Records],
-    supply: &'a Supply,
+    input: &'a Input,
 ) -> Result<Spill<'a>, Memory>
-    requires { Fits (F.meaning functions.now) inputs.now.shape.now }
-    ensures { IfOk result (λ spill. left_of spill ≡ given (F.meaning functions.now) inputs.now.shape.now.parts (source_rows inputs.now.tables.now inputs.now.round (together inputs.now.state.now) (together before.now)) inputs.now.round step source supply.now) }
+    requires { IsWellFormed context.now.shape.now }
+    ensures { IfOk result (λ spill. left_of spill ≡ given (F.meaning functions.now) context.now.shape.now.parts (source_rows context.now.tables.now context.now.round (together context.now.state.now) (together before.now)) context.now.round step source input.now) }
 {
-    match supply {
-        Supply::Kept(sections) => Ok(sections.lend()),
-        Supply::Read(from) => {
-            let splits = splits_of(inputs, before, from);
-            let sections = spill_splits(alloc, functions, inputs, step, source, splits)?;
+    match input {
+        Input::Kept(sections) => Ok(sections.lend()),
+        Input::Read(from) => {
+            let splits = splits_of(context, before, from);
+            let sections = spill_splits(alloc, functions, context, step, source, splits)?;
             Ok(sections.into_spill())
         }
     }
@@ -118,39 +119,39 @@ fn spill_source<'a, F: Functions>(
 fn spill_splits<F: Functions>(
     alloc: Global,
     functions: &F,
-    inputs: &Inputs,
+    context: &RoundContext,
     step: u32,
     source: u32,
     splits: &[Records],
 ) -> Result<Sections, Memory>
-    requires { Fits (F.meaning functions.now) inputs.now.shape.now }
-    ensures { IfOk result (λ sections. sections ≡ spilled (F.meaning functions.now) inputs.now.round step source (together splits.now) inputs.now.shape.now.parts) }
+    requires { IsWellFormed context.now.shape.now }
+    ensures { IfOk result (λ sections. sections ≡ spilled (F.meaning functions.now) context.now.round step source (together splits.now) context.now.shape.now.parts) }
 {
-    let parts = inputs.shape.parts;
-    let mut spilling = Spilling::new(alloc, parts, share_of(splits, parts))?;
+    let parts = context.shape.parts;
+    let mut builder = SpillBuilder::new(alloc, parts, share_of(splits, parts))?;
     'splits: for rows in splits {
-        spilling.add(alloc, functions, inputs.round, step, source, rows)?;
+        builder.add(alloc, functions, context.round, step, source, rows)?;
     }
-    Sections::finished(alloc, spilling)
+    Sections::finished(alloc, builder)
 }
 
 /// The sections of a first source that reads what stands before.
 fn spill_parts<F: Functions>(
     alloc: Global,
     functions: &F,
-    inputs: &Inputs,
+    context: &RoundContext,
     step: u32,
     before: Parts,
 ) -> Result<Sections, Memory>
-    requires { Fits (F.meaning functions.now) inputs.now.shape.now }
-    ensures { IfOk result (λ sections. sections ≡ spilled (F.meaning functions.now) inputs.now.round step 1 (together before) inputs.now.shape.now.parts) }
+    requires { IsWellFormed context.now.shape.now }
+    ensures { IfOk result (λ sections. sections ≡ spilled (F.meaning functions.now) context.now.round step 1 (together before) context.now.shape.now.parts) }
 {
-    let parts = inputs.shape.parts;
-    let mut spilling = Spilling::new(alloc, parts, share_of(before.as_slice(), parts))?;
+    let parts = context.shape.parts;
+    let mut builder = SpillBuilder::new(alloc, parts, share_of(before.as_slice(), parts))?;
     'parts: for rows in before.into_vec() {
-        add_part(alloc, functions, inputs, step, rows, &mut spilling)?;
+        add_part(alloc, functions, context, step, rows, &mut builder)?;
     }
-    Sections::finished(alloc, spilling)
+    Sections::finished(alloc, builder)
 }
 
 /// Adds what the map of the first source emits for a part, which then goes.
@@ -158,20 +159,18 @@ fn spill_parts<F: Functions>(
 fn add_part<F: Functions>(
     alloc: Global,
     functions: &F,
-    inputs: &Inputs,
+    context: &RoundContext,
     step: u32,
     rows: Records,
-    spilling: &mut Spilling,
+    builder: &mut SpillBuilder,
 ) -> Result<(), Memory>
-    requires fits { Fits (F.meaning functions.now) inputs.now.shape.now }
-    requires parts { length spilling.old ≡ inputs.now.shape.now.parts }
-    ensures { OnOk result (spilling.new ≡ dealt (F.meaning functions.now) inputs.now.round step 0 spilling.old (stream ((F.meaning functions.now).map inputs.now.round step 1) rows)) }
+    ensures { OnOk result (builder.new ≡ dealt (F.meaning functions.now) context.now.round step 0 builder.old (stream ((F.meaning functions.now).map context.now.round step 1) rows)) }
 {
     // Then the part is the records themselves, and none of them is copied.
-    if inputs.shape.parts == 1 && functions.map_is_same(step, 1) {
-        return spilling.add_to_one(functions, inputs.round, step, rows);
+    if context.shape.parts == 1 && functions.map_is_same(step, 1) {
+        return builder.add_rows(alloc, functions, context.round, step, rows);
     }
-    spilling.add(alloc, functions, inputs.round, step, 1, &rows)
+    builder.add(alloc, functions, context.round, step, 1, &rows)
 }
 
 /// How many records a part gets of these if all get as many.
@@ -186,19 +185,19 @@ fn share_of(splits: &[Records], parts: u32) -> usize
 }
 
 /// The splits that a source reads.
-fn splits_of<'a>(inputs: &Inputs<'a>, before: &'a [Records], from: &Origin) -> &'a [Records]
-    ensures { together result.now ≡ source_rows inputs.now.tables.now inputs.now.round (together inputs.now.state.now) (together before.now) from.now }
+fn splits_of<'a>(context: &RoundContext<'a>, before: &'a [Records], from: &Origin) -> &'a [Records]
+    ensures { together result.now ≡ source_rows context.now.tables.now context.now.round (together context.now.state.now) (together before.now) from.now }
 {
     match from {
-        Origin::State => inputs.state,
+        Origin::State => context.state,
         Origin::Prev => before,
-        Origin::Table { table, only: None } => table_splits(inputs.tables, *table),
+        Origin::Table { table, only: None } => table_splits(context.tables, *table),
         Origin::Table {
             table,
             only: Some(only),
         } => {
-            if inputs.round == *only {
-                table_splits(inputs.tables, *table)
+            if context.round == *only {
+                table_splits(context.tables, *table)
             } else {
                 &[]
             }

@@ -11,6 +11,7 @@ use Rattle.std.specs.Str.{bytes_eq}
 use Rattle.std.proofs.lemmas.Bool.{eq-eqb, eqb-true, false≢true}
 use Rattle.std.proofs.lemmas.Map.Text.{is_eq-slice_cmp}
 use Rattle.name_index.specs.Names.{place_behind, place_of}
+use Rattle.name_index.proofs.Places.{place_in_back, place_in_front}
 
 -- ---- maps from bytes
 
@@ -36,23 +37,9 @@ module _ {K X : Type 0} (bytes : K → List ℕ) where
 
 -- ---- places
 
--- a name that is among the first has its place there
-place_in_front : (n : ℕ) (name : List ℕ) (front back : List (List ℕ)) (place : ℕ) → place_behind n name front ≡ Some place → place_behind n name (front ++ back) ≡ Some place
-place_in_front n name [] back place e = absurd cc
-place_in_front n name (other ∷ front) back place e = go (place_in_front (suc n) name front back place) (bytes_eq name other) e
-  where
-    go : (place_behind (suc n) name front ≡ Some place → place_behind (suc n) name (front ++ back) ≡ Some place) → (b : Bool) → cond b (Some n) (place_behind (suc n) name front) ≡ Some place → cond b (Some n) (place_behind (suc n) name (front ++ back)) ≡ Some place
-    go others true e = e
-    go others false e = others e
-
--- one that is not is at the end, or nowhere
-place_in_back : (n : ℕ) (name : List ℕ) (front : List (List ℕ)) (last : List ℕ) → place_behind n name front ≡ None → place_behind n name (front ++ last ∷ []) ≡ cond (bytes_eq name last) (Some (n + length front)) None
-place_in_back n name [] last e = ap (λ k. cond (bytes_eq name last) (Some k) None) (omega arith)
-place_in_back n name (other ∷ front) last e = go (λ e. place_in_back (suc n) name front last e ∙ ap (λ k. cond (bytes_eq name last) (Some k) None) (omega arith)) (bytes_eq name other) e
-  where
-    go : (place_behind (suc n) name front ≡ None → place_behind (suc n) name (front ++ last ∷ []) ≡ cond (bytes_eq name last) (Some (n + length (other ∷ front))) None) → (b : Bool) → cond b (Some n) (place_behind (suc n) name front) ≡ None → cond b (Some n) (place_behind (suc n) name (front ++ last ∷ [])) ≡ cond (bytes_eq name last) (Some (n + length (other ∷ front))) None
-    go others true e = absurd cc
-    go others false e = others e
+-- a name that is not among the first is at the end, or nowhere
+place_at_end : (n : ℕ) (name : List ℕ) (front : List (List ℕ)) (last : List ℕ) → place_behind n name front ≡ None → place_behind n name (front ++ last ∷ []) ≡ cond (bytes_eq name last) (Some (n + length front)) None
+place_at_end n name front last e = place_in_back n name front (last ∷ []) e ∙ ap (λ k. cond (bytes_eq name last) (Some k) None) (omega arith)
 
 -- a place is one of the list
 abbrev pub Within : ℕ → Option ℕ → Type 0
@@ -92,7 +79,7 @@ one_more : (other last : List ℕ) (names : List (List ℕ)) → place_of other 
 one_more other last names = go (place_of other names) refl
   where
     go : (o : Option ℕ) → place_of other names ≡ o → place_of other (names ++ last ∷ []) ≡ first_of o (cond (bytes_eq last other) (Some (length names)) None)
-    go None e = place_in_back 0 other names last e ∙ ap (λ b. cond b (Some (0 + length names)) None) (nat_list_eq_equiv.symm other last) ∙ ap (λ k. cond (bytes_eq last other) (Some k) None) (omega arith)
+    go None e = place_at_end 0 other names last e ∙ ap (λ b. cond b (Some (0 + length names)) None) (nat_list_eq_equiv.symm other last) ∙ ap (λ k. cond (bytes_eq last other) (Some k) None) (omega arith)
     go (Some place) e = place_in_front 0 other names (last ∷ []) place e
 
 -- a name that stands there already leaves each place as it is

@@ -7,5 +7,6 @@ abbrev pub place_behind : ℕ → List ℕ → List (List ℕ) → Option ℕ
 place_behind n name [] = None
 place_behind n name (other ∷ names) = cond (bytes_eq name other) (Some n) (place_behind (suc n) name names)
 
+-- at which place of a list the name stands first, from 0
 abbrev pub place_of : List ℕ → List (List ℕ) → Option ℕ
 place_of name names = place_behind 0 name names

@@ -10,7 +10,8 @@ use Rattle.std.proofs.lemmas.Str.Parse.{digit_from_value}
 use Rattle.hal_base.specs.Text.{IsText}
 use Rattle.operations.specs.Applied.{joined}
 
-abbrev Printable : List ℕ → Type 0
+-- printable bytes
+abbrev pub Printable : List ℕ → Type 0
 Printable bytes = AllByRecursion (λ byte. (32 ≤ byte) × (byte ≤ 126)) bytes
 
 digits_printable : (ds : List ℕ) → AllDigits 10 ds → Printable ds

@@ -1,2 +1,3 @@
+pub mod GivenValues
 pub mod Joining
 pub mod Spellings

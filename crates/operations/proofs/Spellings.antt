@@ -31,7 +31,7 @@ saturated_is : (n : ℤ) → FitsSigned w64 n → saturated n ≡ n
 saturated_is (pos n) f = let l = f.sfits in ap pos (omega arith)
 saturated_is (negsuc n) f = let l = f.sfits in ap negsuc (omega arith)
 
-saturated_fits : (n : ℤ) → FitsSigned w64 (saturated n)
+pub saturated_fits : (n : ℤ) → FitsSigned w64 (saturated n)
 saturated_fits (pos n) = record { sfits = omega arith }
 saturated_fits (negsuc n) = record { sfits = omega arith }
 

@@ -1,2 +1,3 @@
-pub mod Operations
 pub mod Applied
+pub mod Laws
+pub mod Operations

@@ -25,9 +25,11 @@ names =
 unfoldable pub operation_named : List ℕ → Option Operation
 operation_named name = named name names
 
+-- a number
 abbrev pub number : Wanted
 number = Of kind.Int
 
+-- a text
 abbrev pub text : Wanted
 text = Of kind.Text
 

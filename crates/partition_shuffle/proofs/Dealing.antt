@@ -1,5 +1,5 @@
 -- Records dealt to parts: one after another, one alone, and to parts with no records.
-use Rattle.std.proofs.Common.{◌≡◌, ℕ, zero, suc, ◌+◌, ◌<◌, ◌==◌, List, [], ◌∷◌, ◌++◌, refl, sym, ap, ◌∙◌, map, length, get_or, drop, reverse, replicate, arith}
+use Rattle.std.proofs.Common.{◌≡◌, ℕ, zero, suc, ◌+◌, ◌<◌, ◌≤◌, ◌==◌, List, [], ◌∷◌, ◌++◌, refl, sym, ap, ◌∙◌, map, length, get_or, drop, reverse, replicate, arith}
 use Rattle.std.proofs.Math.ListN.{set}
 use Rattle.std.proofs.lemmas.Bool.{eq-eqb, ne_eqb}
 use Rattle.std.proofs.lemmas.List.{append-nil, append_assoc, reverse-append, at_drop_more}
@@ -12,15 +12,8 @@ use Rattle.hal_base.specs.Sorted.{sorted}
 use Rattle.plain_job.specs.Job.{stream}
 use Rattle.plain_job.specs.Laws.{part}
 use Rattle.plain_job.specs.Chain.{numbers_from}
-use Rattle.partition_shuffle.specs.Spills.{HaveParts, dealt}
-
-pub all_before : {A : Type 0} (P : A → Type 0) (xs ys : List A) → AllByRecursion P (xs ++ ys) → AllByRecursion P xs
-all_before P [] ys a = tt
-all_before P (x ∷ xs) ys a = (a.0, all_before P xs ys a.1)
-
-pub all_after : {A : Type 0} (P : A → Type 0) (xs ys : List A) → AllByRecursion P (xs ++ ys) → AllByRecursion P ys
-all_after P [] ys a = a
-all_after P (x ∷ xs) ys a = all_after P xs ys a.1
+use Rattle.plain_job.specs.Sections.{section}
+use Rattle.partition_shuffle.specs.steps.Dealt.{dealt}
 
 pub length-dealt : (m : Meaning) (i j p : ℕ) (parts : List (List Record)) (rows : List Record) → length (dealt m i j p parts rows) ≡ length parts
 length-dealt m i j p [] rows = refl
@@ -46,8 +39,17 @@ dealt_at m i j p k [] row rows l e r = absurd (omega arith)
 dealt_at m i j p zero (first ∷ parts) row rows l e r = rw (eq-eqb (m.partition i j row.key) p (omega arith), dealt_before m i j (p + 1) parts row (omega arith), r) refl
 dealt_at m i j p (suc k) (first ∷ parts) row rows l e r = rw (ne_eqb (m.partition i j row.key) p (λ f. absurd (omega arith)), append-nil first, dealt_at m i j (p + 1) k parts row rows (omega arith) (omega arith) r) refl
 
+-- a record past all parts leaves the parts as they are
+dealt_past : (m : Meaning) (i j p : ℕ) (parts : List (List Record)) (row : Record) → p + length parts ≤ m.partition i j row.key → dealt m i j p parts (row ∷ []) ≡ parts
+dealt_past m i j p [] row l = refl
+dealt_past m i j p (first ∷ parts) row l = rw (ne_eqb (m.partition i j row.key) p (λ e. absurd (omega arith)), append-nil first, dealt_past m i j (p + 1) parts row (omega arith)) refl
+
+-- a record of no part is dealt
+pub dealt_nowhere : (m : Meaning) (i j k : ℕ) (parts : List (List Record)) (row : Record) → k ≡ m.partition i j row.key → length parts ≤ k → parts ≡ dealt m i j 0 parts (row ∷ [])
+dealt_nowhere m i j k parts row e l = sym (dealt_past m i j 0 parts row (omega arith))
+
 -- a record added to its part is dealt
-pub dealt_one : (m : Meaning) (i j k : ℕ) (parts : List (List Record)) (row : Record) (rows more : List Record) → m.partition i j row.key < length parts → k ≡ m.partition i j row.key → rows ≡ get_or parts k rows → more ≡ get_or parts k rows ++ row ∷ [] → set parts k more ≡ dealt m i j 0 parts (row ∷ [])
+pub dealt_one : (m : Meaning) (i j k : ℕ) (parts : List (List Record)) (row : Record) (rows more : List Record) → k < length parts → k ≡ m.partition i j row.key → rows ≡ get_or parts k rows → more ≡ get_or parts k rows ++ row ∷ [] → set parts k more ≡ dealt m i j 0 parts (row ∷ [])
 dealt_one m i j k parts row rows more l e r added =
     let same : more ≡ rows ++ row ∷ [] = added ∙ ap (λ ys. ys ++ row ∷ []) (sym r) in
     ap (λ ys. set parts k ys) same ∙ dealt_at m i j 0 k parts row rows (omega arith) (omega arith) r
@@ -65,18 +67,10 @@ pub dealt_sorted : (m : Meaning) (i j n : ℕ) (rows : List Record) (empty chang
 dealt_sorted m i j n rows empty changed none made = rw (made, none) (sorted_all m i j 0 n rows)
 
 -- once the first of some records are dealt, the others are still to be dealt
-pub dealt_more : (m : Meaning) (i j : ℕ) (parts changed whole : List (List Record)) (all xs ys : List Record) → all ≡ xs ++ ys → changed ≡ dealt m i j 0 parts xs → dealt m i j 0 parts all ≡ whole → HaveParts m i j (length parts) all → (dealt m i j 0 changed ys ≡ whole) × HaveParts m i j (length changed) ys
-dealt_more m i j parts changed whole all xs ys e made so_far within =
-    let same : length changed ≡ length parts = ap length made ∙ length-dealt m i j 0 parts xs in
-    let split : HaveParts m i j (length parts) (xs ++ ys) = rw (← e) within in
+pub dealt_more : (m : Meaning) (i j : ℕ) (parts changed whole : List (List Record)) (all xs ys : List Record) → all ≡ xs ++ ys → changed ≡ dealt m i j 0 parts xs → dealt m i j 0 parts all ≡ whole → dealt m i j 0 changed ys ≡ whole
+dealt_more m i j parts changed whole all xs ys e made so_far =
     let twice : dealt m i j 0 changed ys ≡ dealt m i j 0 parts all = rw (made, e) (dealt_twice m i j 0 parts xs ys) in
-    (twice ∙ so_far, rw same (all_after (λ row. m.partition i j row.key < length parts) xs ys split))
-
--- the first of some records have parts
-pub first_within : (m : Meaning) (i j n : ℕ) (all xs ys : List Record) → all ≡ xs ++ ys → HaveParts m i j n all → HaveParts m i j n xs
-first_within m i j n all xs ys e within =
-    let split : HaveParts m i j n (xs ++ ys) = rw (← e) within in
-    all_before (λ row. m.partition i j row.key < n) xs ys split
+    twice ∙ so_far
 
 -- what the map emits for the next record, added to a list with no records, and for the others
 pub stream_more : (means : Record → List Record) (rows : List Record) (k : ℕ) (row : Record) (before emitted : List Record) → k < length rows → row ≡ get_or rows k row → before ≡ [] → emitted ≡ before ++ means row → stream means (drop k rows) ≡ emitted ++ stream means (drop (k + 1) rows)
@@ -88,13 +82,13 @@ stream_more means rows k row before emitted l e none added =
 pub last_first : (rows rest : List Record) (row : Record) → rows ≡ rest ++ row ∷ [] → reverse rows ≡ row ∷ reverse rest
 last_first rows rest row e = ap reverse e ∙ reverse-append rest (row ∷ [])
 
--- of one part alone every record is
-all_in_one : (m : Meaning) (i j : ℕ) (rows : List Record) → HaveParts m i j 1 rows → part (λ key. m.partition i j key == 0) rows ≡ rows
-all_in_one m i j [] within = refl
-all_in_one m i j (row ∷ rows) within = rw (eq-eqb (m.partition i j row.key) 0 (omega arith), all_in_one m i j rows within.1) refl
+-- the records of the first part, where all are of it
+all_in_first : (m : Meaning) (i j : ℕ) (rows : List Record) → AllByRecursion (λ (row : Record). m.partition i j row.key ≡ 0) rows → part (λ key. m.partition i j key == 0) rows ≡ rows
+all_in_first m i j [] all = refl
+all_in_first m i j (row ∷ rows) all = rw (eq-eqb (m.partition i j row.key) 0 all.0, all_in_first m i j rows all.1) refl
 
 -- records behind those of the one part that there is are dealt
-pub dealt_to_one : (m : Meaning) (i j : ℕ) (parts : List (List Record)) (rows old more : List Record) → length parts ≡ 1 → HaveParts m i j 1 rows → old ≡ get_or parts 0 old → more ≡ old ++ rows → set parts 0 more ≡ dealt m i j 0 parts rows
-dealt_to_one m i j [] rows old more one within e added = absurd (omega arith)
-dealt_to_one m i j (first ∷ []) rows old more one within e added = rw (all_in_one m i j rows within, added, e) refl
-dealt_to_one m i j (first ∷ second ∷ parts) rows old more one within e added = absurd (omega arith)
+pub dealt_to_one : (m : Meaning) (i j : ℕ) (parts : List (List Record)) (rows old more : List Record) → length parts ≡ 1 → AllByRecursion (λ (row : Record). m.partition i j row.key ≡ 0) rows → old ≡ get_or parts 0 old → more ≡ get_or parts 0 old ++ rows → set parts 0 more ≡ dealt m i j 0 parts rows
+dealt_to_one m i j [] rows old more one all e added = absurd (omega arith)
+dealt_to_one m i j (first ∷ []) rows old more one all e added = rw (all_in_first m i j rows all, added) refl
+dealt_to_one m i j (first ∷ second ∷ parts) rows old more one all e added = absurd (omega arith)

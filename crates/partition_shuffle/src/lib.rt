@@ -5,4 +5,4 @@ mod merged;
 mod shuffle;
 
 pub use merged::{Merged, merge};
-pub use shuffle::{Spilling, spill};
+pub use shuffle::{SpillBuilder, spill};

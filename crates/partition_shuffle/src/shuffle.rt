@@ -1,9 +1,11 @@
-ghost use Rattle.std.specs.Prelude.{◌≡◌, ◌≤◌, [], ◌∷◌, ◌++◌, length, map, replicate, IfOk, OnOk};
-ghost use Rattle.hal_base.specs.Order.{record_cmp};
+ghost use Rattle.std.specs.Prelude.{◌≡◌, ◌≤◌, [], ◌∷◌, ◌++◌, true, map, replicate, IfOk, OnOk};
 ghost use Rattle.std.specs.List.{AllByRecursion};
+ghost use Rattle.hal_base.specs.declared.record.Record.{Record as Row};
+ghost use Rattle.hal_base.specs.Order.{record_cmp};
 ghost use Rattle.hal_base.specs.Sorted.{Ascending, sorted};
 ghost use Rattle.plain_job.specs.Job.{stream};
-ghost use Rattle.partition_shuffle.specs.Spills.{HaveParts, PartsWithin, dealt, spilled};
+ghost use Rattle.partition_shuffle.specs.Spills.{spilled};
+ghost use Rattle.partition_shuffle.specs.steps.Dealt.{dealt};
 
 use hal_base::{Functions, Memory, Parts, Record, Records, sort_rows};
 use std::alloc::Global;
@@ -21,38 +23,37 @@ pub fn spill<F: Functions>(
     rows: &Records,
     parts: u32,
 ) -> Result<Parts, Memory>
-    requires few { (1 ≤ parts) × (parts ≤ 64) }
-    requires within { PartsWithin (F.meaning functions.now) round step source rows.now parts }
+    requires { (1 ≤ parts) × (parts ≤ 64) }
     ensures parts { IfOk result (λ out. out ≡ spilled (F.meaning functions.now) round step source rows.now parts) }
     ensures in_order { IfOk result (AllByRecursion (Ascending record_cmp)) }
 {
-    let mut spilling = Spilling::new(alloc, parts, rows.len() / parts as usize)?;
-    spilling.add(alloc, functions, round, step, source, rows)?;
-    spilling.finish(alloc)
+    let mut builder = SpillBuilder::new(alloc, parts, rows.len() / parts as usize)?;
+    builder.add(alloc, functions, round, step, source, rows)?;
+    builder.finish(alloc)
 }
 
 /// A spill in the making: the records so far, each in the part of its key, and no part sorted yet.
 #[derive(Drop)]
-pub struct Spilling {
+pub struct SpillBuilder {
     parts: Vec<Records>,
 }
 
-impl Model for Spilling {
+impl Model for SpillBuilder {
     ghost use Rattle.std.specs.Prelude.{List};
     ghost use Rattle.hal_base.specs.declared.record.Record.{Record as Row};
 
     ghost Value = { List (List Row) };
 
-    ghost view = { λ spilling. spilling.parts.items };
+    ghost view = { λ builder. builder.parts.items };
 }
 
-impl Spilling {
+impl SpillBuilder {
     /// So many parts with no records, each with room for its share, and for some more.
-    pub fn new(alloc: Global, parts: u32, share: usize) -> Result<Spilling, Memory>
-        ensures { IfOk result (λ spilling. spilling ≡ replicate parts []) }
+    pub fn new(alloc: Global, parts: u32, share: usize) -> Result<SpillBuilder, Memory>
+        ensures { IfOk result (λ builder. builder ≡ replicate parts []) }
     {
         let parts = empty_parts(alloc, parts, share)?;
-        Ok(Spilling { parts })
+        Ok(SpillBuilder { parts })
     }
 
     /// Adds what the map of a source emits for these records. After `Memory` a part of it may be
@@ -66,26 +67,24 @@ impl Spilling {
         source: u32,
         rows: &Records,
     ) -> Result<(), Memory>
-        requires { PartsWithin (F.meaning functions.now) round step source rows.now (length self.old) }
         ensures { OnOk result (self.new ≡ dealt (F.meaning functions.now) round step 0 self.old (stream ((F.meaning functions.now).map round step source) rows.now)) }
     {
         deal(alloc, functions, round, step, source, rows, &mut self.parts)
     }
 
-    /// Adds these records to the one part that there is. After `Memory` it is as before.
-    #[tactic(auto, using(crate::proofs::Dealing::dealt_to_one))]
-    pub fn add_to_one<F: Functions>(
+    /// Adds these records, as a map does that emits each record as it is. Where there is one part, their
+    /// list is taken over as it stands. After `Memory` a part of them may be there.
+    pub fn add_rows<F: Functions>(
         &mut self,
+        alloc: Global,
         functions: &F,
         round: u32,
         step: u32,
         rows: Records,
     ) -> Result<(), Memory>
-        requires one { length self.old ≡ 1 }
-        requires within { HaveParts (F.meaning functions.now) round step 1 rows }
         ensures { OnOk result (self.new ≡ dealt (F.meaning functions.now) round step 0 self.old rows) }
     {
-        add_behind(rows, &mut self.parts[0])
+        deal_rows(alloc, functions, round, step, rows, &mut self.parts)
     }
 
     /// The parts, each sorted.
@@ -120,7 +119,6 @@ fn deal<F: Functions>(
     rows: &Records,
     parts: &mut [Records],
 ) -> Result<(), Memory>
-    requires { PartsWithin (F.meaning functions.now) round step source rows.now (length parts.old) }
     ensures { OnOk result (parts.new ≡ dealt (F.meaning functions.now) round step 0 parts.old (stream ((F.meaning functions.now).map round step source) rows.now)) }
 {
     // One list takes what each record emits in turn, so that none is made for a record.
@@ -132,6 +130,42 @@ fn deal<F: Functions>(
     Ok(())
 }
 
+/// Moves the records to their parts, all at once where there is one part, and all belong to it.
+fn deal_rows<F: Functions>(
+    alloc: Global,
+    functions: &F,
+    round: u32,
+    step: u32,
+    rows: Records,
+    parts: &mut [Records],
+) -> Result<(), Memory>
+    ensures { OnOk result (parts.new ≡ dealt (F.meaning functions.now) round step 0 parts.old rows) }
+{
+    if parts.len() == 1 && are_in_first(alloc, functions, round, step, rows.as_slice())? {
+        return add_behind(rows, &mut parts[0]);
+    }
+    let _emptied = deal_emitted(alloc, functions, round, step, rows, parts)?;
+    Ok(())
+}
+
+/// Whether all records belong to the first part.
+fn are_in_first<F: Functions>(
+    alloc: Global,
+    functions: &F,
+    round: u32,
+    step: u32,
+    rows: &[Record],
+) -> Result<bool, Memory>
+    ensures { IfOk result (λ all. all ≡ true → AllByRecursion (λ (row : Row). (F.meaning functions.now).partition round step row.key ≡ 0) rows.now) }
+{
+    'rows: for row in rows {
+        if functions.partition(alloc, round, step, &row.key)? != 0 {
+            return Ok(false);
+        }
+    }
+    Ok(true)
+}
+
 /// Moves the records to their parts, and gives back the list with no records in it.
 fn deal_emitted<F: Functions>(
     alloc: Global,
@@ -141,7 +175,6 @@ fn deal_emitted<F: Functions>(
     emitted: Records,
     parts: &mut [Records],
 ) -> Result<Records, Memory>
-    requires { HaveParts (F.meaning functions.now) round step (length parts.old) emitted }
     ensures emptied { IfOk result (λ left. left ≡ []) }
     ensures dealt { OnOk result (parts.new ≡ dealt (F.meaning functions.now) round step 0 parts.old emitted) }
 {
@@ -165,7 +198,7 @@ fn add_behind(rows: Records, part: &mut Records) -> Result<(), Memory>
     part.append(&mut rows)
 }
 
-/// Moves a record to the part of its key.
+/// Moves a record to the part of its key, if there is one.
 fn add_to_part<F: Functions>(
     alloc: Global,
     functions: &F,
@@ -174,11 +207,14 @@ fn add_to_part<F: Functions>(
     row: Record,
     parts: &mut [Records],
 ) -> Result<(), Memory>
-    requires { HaveParts (F.meaning functions.now) round step (length parts.old) (row ∷ []) }
     ensures { OnOk result (parts.new ≡ dealt (F.meaning functions.now) round step 0 parts.old (row ∷ [])) }
 {
     let number = functions.partition(alloc, round, step, &row.key)?;
-    parts[number as usize].push(row)
+    let at = number as usize;
+    if at >= parts.len() {
+        return Ok(());
+    }
+    parts[at].push(row)
 }
 
 fn sort_parts(alloc: Global, parts: Vec<Records>) -> Result<Parts, Memory>

@@ -1,6 +1,16 @@
-pub mod Begins
+pub mod ByNumbers
+pub mod DistanceParts
+pub mod Distances
 pub mod Keeps
+pub mod KeyParts
 pub mod Keys
+pub mod Lists
+pub mod Numbers
 pub mod Once
 pub mod Parted
+pub mod Reaching
+pub mod Rounds
+pub mod Schemas
+pub mod Sections
 pub mod Tables
+pub mod TellDistance

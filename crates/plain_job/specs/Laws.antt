@@ -1,14 +1,11 @@
--- Laws of jobs, which tell what may be done to their streams beforehand, and of chains.
-use Rattle.std.specs.Prelude.{◌≡◌, ℕ, Bool, true, List, map}
+-- Laws of jobs, which tell what may be done to their streams beforehand.
+use Rattle.std.specs.Prelude.{◌≡◌, Bool, true, List, map}
 use Rattle.std.specs.List.{filter}
 use Rattle.hal_base.specs.declared.value.Value.{Value}
 use Rattle.hal_base.specs.declared.record.Record.{Record}
-use Rattle.hal_base.specs.declared.shape.Shape.{Shape}
-use Rattle.hal_base.specs.Meaning.{Meaning}
 use Rattle.hal_base.specs.Order.{record_cmp}
 use Rattle.hal_base.specs.Sorted.{sorted}
 use Rattle.plain_job.specs.Job.{job}
-use Rattle.plain_job.specs.Ends.{Ending, IsChain}
 
 -- the records whose keys are chosen
 abbrev pub part : (Value → Bool) → List Record → List Record
@@ -21,10 +18,3 @@ PartsMakeTheJob = (reduce : Value → List (List (List Value)) → List Record) 
 -- a job reads each stream as if it were sorted
 abbrev pub SortingKeepsTheJob : Type 0
 SortingKeepsTheJob = (reduce : Value → List (List (List Value)) → List Record) (chosen : Value → Bool) (streams : List (List Record)) → job reduce chosen (map (sorted record_cmp) streams) ≡ job reduce chosen streams
-
--- a chain leaves one list of texts, in one round and with one word
-abbrev pub ChainsAreOne : Type 0
-ChainsAreOne =
-    (m : Meaning) (shape : Shape) (tables : List (List Record)) (parts parts' : List (List ℕ)) (rounds rounds' : ℕ) (word word' : Ending)
-    → IsChain m shape tables parts rounds word → IsChain m shape tables parts' rounds' word'
-    → (parts ≡ parts') × (rounds ≡ rounds') × (word ≡ word')

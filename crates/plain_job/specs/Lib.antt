@@ -1,6 +1,10 @@
 pub mod Chain
+pub mod ChainLaws
+pub mod Distances
 pub mod Ends
+pub mod Fit
 pub mod Job
 pub mod Laws
-pub mod Plain
 pub mod Predefined
+pub mod Sections
+pub mod steps

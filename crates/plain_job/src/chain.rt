@@ -1,40 +1,24 @@
-ghost use Rattle.std.specs.Prelude.{◌≡◌, ◌≤◌, IfOk};
-ghost use Rattle.plain_job.specs.Ends.{distance};
-ghost use Rattle.plain_job.specs.Plain.{FewSteps, IsNear, IsPlainChain, end_by};
+ghost use Rattle.std.specs.Prelude.{◌≡◌, ◌<◌, ◌≤◌, IfOk, MatchBool};
+ghost use Rattle.hal_base.specs.Shapes.{IsWellFormed};
+ghost use Rattle.plain_job.specs.Distances.{distance};
+ghost use Rattle.plain_job.specs.Ends.{IsPlainResult};
+ghost use Rattle.plain_job.specs.steps.Rounds.{end_by};
 
 use crate::distance::distance_of;
+use crate::ending::{End, PlainResult};
 use crate::round::{round_out, table_at, together};
-use hal_base::{Functions, Memory, Parts, Records, Shape, Tables};
+use hal_base::{Functions, Memory, Records, Shape, Tables};
 use std::alloc::Global;
 
-/// How a chain ends: by a program that stops exactly, by a threshold of its own, or in the last
-/// round that it may have.
-#[derive(Clone, Copy, Debug, PartialEq, Eq)]
-pub enum End {
-    Fixpoint,
-    Close,
-    Limit,
-}
-
-/// What a chain leaves: the parts of the last step in its last round, the number of that round, and
-/// how it ended.
-#[derive(Drop)]
-pub struct PlainChain {
-    pub parts: Parts,
-    pub rounds: u32,
-    pub end: End,
-}
-
-/// The unrolled chain of plain jobs.
+/// The unrolled chain of plain jobs. docs/SEMANTICS.md, "The unrolled chain".
 pub fn plain_chain<F: Functions>(
     alloc: Global,
     functions: &F,
     shape: &Shape,
     tables: &Tables,
-) -> Result<PlainChain, Memory>
-    requires rounds { 1 ≤ shape.now.rounds }
-    requires steps { FewSteps shape.now.steps }
-    ensures { IfOk result (IsPlainChain (F.meaning functions.now) shape.now tables.now) }
+) -> Result<PlainResult, Memory>
+    requires { IsWellFormed shape.now }
+    ensures { IfOk result (IsPlainResult (F.meaning functions.now) shape.now tables.now) }
 {
     let rounds = shape.rounds;
     let mut state = table_at(alloc, tables, shape.start)?;
@@ -45,7 +29,7 @@ pub fn plain_chain<F: Functions>(
         let near = is_near(alloc, functions, shape, round, &state, &left)?;
         if near || round == rounds {
             let end = end_of(near, shape.exact);
-            return Ok(PlainChain {
+            return Ok(PlainResult {
                 parts,
                 rounds: round,
                 end,
@@ -66,7 +50,8 @@ fn is_near<F: Functions>(
     old: &Records,
     new: &Records,
 ) -> Result<bool, Memory>
-    ensures { IfOk result (IsNear shape.now round (distance (F.meaning functions.now) shape.now old.now new.now)) }
+    ensures { let far = distance (F.meaning functions.now) shape.now old.now new.now in
+        IfOk result (λ near. MatchBool near ((2 ≤ round) × (far < shape.now.threshold)) (2 ≤ round → shape.now.threshold ≤ far)) }
 {
     if round < 2 {
         return Ok(false);

@@ -1,5 +1,5 @@
 ghost use Rattle.std.specs.Prelude.{◌≡◌, ◌∷◌, [], IfOk};
-ghost use Rattle.plain_job.specs.Ends.{distance, key_distance};
+ghost use Rattle.plain_job.specs.Distances.{distance, key_distance};
 ghost use Rattle.plain_job.specs.Job.{group, keys};
 
 use crate::plain::{group_of, keys_of};

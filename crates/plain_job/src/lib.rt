@@ -1,29 +1,19 @@
-//! What a job means, over whole lists, and laws of it.
+//! What a job and a chain of jobs mean, over whole lists, and laws of them.
 #![tactic(auto)]
-
-ghost use Rattle.plain_job.specs.Laws.{ChainsAreOne, PartsMakeTheJob, SortingKeepsTheJob};
 
 mod chain;
 mod distance;
+mod ending;
 mod insertion;
+mod laws;
 mod plain;
 mod round;
 
-pub use chain::{End, PlainChain, plain_chain};
+pub use chain::plain_chain;
+pub use ending::{End, PlainResult};
+pub use laws::{
+    chains_are_by_numbers, chains_are_of_their_schemas, chains_are_one, parts_make_the_distance,
+    parts_make_the_job, sections_make_the_job, sorting_keeps_the_job,
+};
 pub use plain::{group_of, keys_of, plain_part, plain_stream};
 pub use round::together;
-
-/// The job of a part is the job of the streams' records of that part.
-pub fn parts_make_the_job()
-    ensures { PartsMakeTheJob }
-{}
-
-/// A job reads each stream as if it were sorted.
-pub fn sorting_keeps_the_job()
-    ensures { SortingKeepsTheJob }
-{}
-
-/// A chain ends in one round, with one word, and leaves one list of texts.
-pub fn chains_are_one()
-    ensures { ChainsAreOne }
-{}

@@ -1,10 +1,11 @@
-ghost use Rattle.std.specs.Prelude.{◌≡◌, ◌++◌, [], map, IfOk, OnOk};
+ghost use Rattle.std.specs.Prelude.{◌≡◌, ◌≤◌, ◌++◌, length, map, IfOk, OnOk};
+ghost use Rattle.std.specs.List.{AllByRecursion};
+ghost use Rattle.hal_base.specs.Shapes.{HasFewSources};
 ghost use Rattle.plain_job.specs.Chain as chain;
-ghost use Rattle.plain_job.specs.Chain.{numbers_from, part_out, streams};
-ghost use Rattle.plain_job.specs.Plain.{FewSources, FewSteps};
+ghost use Rattle.plain_job.specs.Chain.{numbers_from, parts_from, part_out, streams};
 
 use crate::plain::{plain_part, plain_stream};
-use hal_base::{CopyIn, Functions, Memory, Origin, Parts, Records, Shape, Sources, Tables};
+use hal_base::{CopyIn, Functions, Memory, Origin, Parts, Records, Shape, Sources, Step, Tables};
 use std::alloc::Global;
 
 /// What the sources of a round read besides the output before.
@@ -24,8 +25,9 @@ pub(crate) fn round_out<F: Functions>(
     round: u32,
     state: &Records,
 ) -> Result<Parts, Memory>
-    requires { FewSteps shape.now.steps }
-    ensures { IfOk result (λ out. out ≡ chain.steps_out (F.meaning functions.now) shape.now tables.now round 1 state.now [] shape.now.steps) }
+    requires few_steps { length shape.now.steps ≤ 8 }
+    requires few_sources { AllByRecursion HasFewSources shape.now.steps }
+    ensures { IfOk result (λ out. out ≡ parts_from (F.meaning functions.now) shape.now tables.now round state.now (length shape.now.steps)) }
 {
     let inputs = Inputs {
         tables,
@@ -36,11 +38,27 @@ pub(crate) fn round_out<F: Functions>(
     let mut number: u32 = 0;
     'steps: for step in shape.steps.as_slice() {
         number += 1;
-        let before = together(alloc, &out)?;
-        let streams = streams_of(alloc, functions, &inputs, number, &before, &step.sources)?;
-        out = all_parts(alloc, functions, round, number, &streams, shape.parts)?;
+        out = step_out(alloc, functions, &inputs, number, &out, step, shape.parts)?;
     }
     Ok(out)
+}
+
+/// All parts of a step, which reads the output before.
+fn step_out<F: Functions>(
+    alloc: Global,
+    functions: &F,
+    inputs: &Inputs,
+    number: u32,
+    before: &Parts,
+    step: &Step,
+    parts: u32,
+) -> Result<Parts, Memory>
+    requires { HasFewSources step.now }
+    ensures { IfOk result (λ out. out ≡ map (part_out (F.meaning functions.now) inputs.now.round number (streams (F.meaning functions.now) inputs.now.round number (chain.source_rows inputs.now.tables.now inputs.now.round inputs.now.state.now (chain.together before.now)) 1 step.now.sources)) (numbers_from 0 parts)) }
+{
+    let before = together(alloc, before)?;
+    let streams = streams_of(alloc, functions, inputs, number, &before, &step.sources)?;
+    all_parts(alloc, functions, inputs.round, number, &streams, parts)
 }
 
 /// All parts of what a step emits.
@@ -70,7 +88,7 @@ fn streams_of<F: Functions>(
     before: &Records,
     sources: &Sources,
 ) -> Result<Parts, Memory>
-    requires { FewSources sources.now }
+    requires { length sources.now ≤ 8 }
     ensures { IfOk result (λ found. found ≡ streams (F.meaning functions.now) inputs.now.round step (chain.source_rows inputs.now.tables.now inputs.now.round inputs.now.state.now before.now) 1 sources.now) }
 {
     let mut found = Parts::new(alloc);

@@ -1,4 +1,4 @@
 pub mod EverySteps
-pub mod Growing
+pub mod Extending
 pub mod LeastSteps
 pub mod Steps

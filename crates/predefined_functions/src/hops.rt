@@ -1,14 +1,14 @@
 ghost use Rattle.std.specs.Prelude.{◌≡◌, ◌++◌, OnOk, IfOk};
 ghost use Rattle.std.specs.List.{flat_map};
 ghost use Rattle.plain_job.specs.Predefined as predefined;
-ghost use Rattle.predefined_functions.specs.Grown.{Grown};
+ghost use Rattle.predefined_functions.specs.steps.Extended.{Extends};
 
 use crate::reduces::push_row;
 use hal_base::{Fields, Group, Memory, Records, Value};
 use std::alloc::Global;
 
 /// The records of each number of the first of two groups and each field of the second.
-#[tactic(auto, using(crate::proofs::Growing::grown_same))]
+#[tactic(auto, using(crate::proofs::Extending::extends_same))]
 pub(crate) fn push_hops(
     alloc: Global,
     key: &Value,
@@ -16,7 +16,7 @@ pub(crate) fn push_hops(
     out: &mut Records,
 ) -> Result<(), Memory>
     ensures appended { OnOk result (out.new ≡ out.old ++ predefined.hop key.now groups.now) }
-    ensures kept { Grown out.old out.new }
+    ensures kept { Extends out.old out.new }
 {
     let [distances, targets] = groups else {
         return Ok(());
@@ -24,7 +24,7 @@ pub(crate) fn push_hops(
     push_each(alloc, distances.as_slice(), targets.as_slice(), out)
 }
 
-#[tactic(auto, using(crate::proofs::Growing::grown_same, crate::proofs::Growing::grown_by, crate::proofs::Growing::grown_twice))]
+#[tactic(auto, using(crate::proofs::Extending::extends_same, crate::proofs::Extending::extends_by, crate::proofs::Extending::extends_twice))]
 fn push_each(
     alloc: Global,
     distances: &[Fields],
@@ -32,7 +32,7 @@ fn push_each(
     out: &mut Records,
 ) -> Result<(), Memory>
     ensures appended { OnOk result (out.new ≡ out.old ++ flat_map (λ distance. flat_map (λ target. predefined.keyed target (predefined.next_of distance)) targets.now) distances.now) }
-    ensures kept { Grown out.old out.new }
+    ensures kept { Extends out.old out.new }
 {
     'distances: for distance in distances {
         push_hop(alloc, distance.as_slice(), targets, out)?;
@@ -41,7 +41,7 @@ fn push_each(
 }
 
 /// The records of one number and each field of the second group.
-#[tactic(auto, using(crate::proofs::Growing::grown_same))]
+#[tactic(auto, using(crate::proofs::Extending::extends_same))]
 fn push_hop(
     alloc: Global,
     distance: &[Value],
@@ -49,7 +49,7 @@ fn push_hop(
     out: &mut Records,
 ) -> Result<(), Memory>
     ensures appended { OnOk result (out.new ≡ out.old ++ flat_map (λ target. predefined.keyed target (predefined.next_of distance.now)) targets.now) }
-    ensures kept { Grown out.old out.new }
+    ensures kept { Extends out.old out.new }
 {
     let next = next_of(alloc, distance)?;
     push_keyed(alloc, targets, &next, out)
@@ -57,7 +57,7 @@ fn push_hop(
 
 /// Adds, for each list that has a first field, the record of that field as key and these fields. After
 /// `Memory` some of them may have been added.
-#[tactic(auto, using(crate::proofs::Growing::grown_same, crate::proofs::Growing::grown_by, crate::proofs::Growing::grown_twice))]
+#[tactic(auto, using(crate::proofs::Extending::extends_same, crate::proofs::Extending::extends_by, crate::proofs::Extending::extends_twice))]
 pub fn push_keyed(
     alloc: Global,
     targets: &[Fields],
@@ -65,7 +65,7 @@ pub fn push_keyed(
     out: &mut Records,
 ) -> Result<(), Memory>
     ensures appended { OnOk result (out.new ≡ out.old ++ flat_map (λ target. predefined.keyed target next.now) targets.now) }
-    ensures kept { Grown out.old out.new }
+    ensures kept { Extends out.old out.new }
 {
     'targets: for target in targets {
         if let Some(key) = target.get(0) {

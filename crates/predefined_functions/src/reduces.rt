@@ -1,6 +1,6 @@
 ghost use Rattle.std.specs.Prelude.{◌≡◌, ◌++◌, ◌∷◌, [], map, OnOk, OnErr};
 ghost use Rattle.plain_job.specs.Predefined as predefined;
-ghost use Rattle.predefined_functions.specs.Grown.{Grown};
+ghost use Rattle.predefined_functions.specs.steps.Extended.{Extends};
 
 use crate::hops::push_hops;
 use crate::least_fields::least_fields;
@@ -29,7 +29,7 @@ pub fn least(alloc: Global, key: &Value, groups: &Groups, out: &mut Records) -> 
 
 /// Adds the key with each field list of each group, groups in order. After `Memory` `out` is as
 /// before.
-#[tactic(auto, using(crate::proofs::Growing::grown_back))]
+#[tactic(auto, using(crate::proofs::Extending::extends_back))]
 pub fn every(alloc: Global, key: &Value, groups: &Groups, out: &mut Records) -> Result<(), Memory>
     ensures appended { OnOk result (out.new ≡ out.old ++ predefined.every key.now groups.now) }
     ensures unchanged { OnErr result (out.new ≡ out.old) }
@@ -45,7 +45,7 @@ pub fn every(alloc: Global, key: &Value, groups: &Groups, out: &mut Records) -> 
 /// Adds, for each number of the first group and each field of the second, the record of that field as
 /// key and the next number. Adds nothing where there are not two groups. After `Memory` `out` is as
 /// before.
-#[tactic(auto, using(crate::proofs::Growing::grown_back))]
+#[tactic(auto, using(crate::proofs::Extending::extends_back))]
 pub fn hop(alloc: Global, key: &Value, groups: &Groups, out: &mut Records) -> Result<(), Memory>
     ensures appended { OnOk result (out.new ≡ out.old ++ predefined.hop key.now groups.now) }
     ensures unchanged { OnErr result (out.new ≡ out.old) }
@@ -58,10 +58,10 @@ pub fn hop(alloc: Global, key: &Value, groups: &Groups, out: &mut Records) -> Re
     pushed
 }
 
-#[tactic(auto, using(crate::proofs::Growing::grown_same, crate::proofs::Growing::grown_by, crate::proofs::Growing::grown_twice))]
+#[tactic(auto, using(crate::proofs::Extending::extends_same, crate::proofs::Extending::extends_by, crate::proofs::Extending::extends_twice))]
 fn push_every(alloc: Global, key: &Value, groups: &[Group], out: &mut Records) -> Result<(), Memory>
     ensures appended { OnOk result (out.new ≡ out.old ++ predefined.every key.now groups.now) }
-    ensures kept { Grown out.old out.new }
+    ensures kept { Extends out.old out.new }
 {
     'groups: for group in groups {
         push_rows(alloc, key, group.as_slice(), out)?;
@@ -69,10 +69,10 @@ fn push_every(alloc: Global, key: &Value, groups: &[Group], out: &mut Records) -
     Ok(())
 }
 
-#[tactic(auto, using(crate::proofs::Growing::grown_same, crate::proofs::Growing::grown_by, crate::proofs::Growing::grown_twice))]
+#[tactic(auto, using(crate::proofs::Extending::extends_same, crate::proofs::Extending::extends_by, crate::proofs::Extending::extends_twice))]
 fn push_rows(alloc: Global, key: &Value, group: &[Fields], out: &mut Records) -> Result<(), Memory>
     ensures appended { OnOk result (out.new ≡ out.old ++ map (λ fields. predefined.made key.now fields) group.now) }
-    ensures kept { Grown out.old out.new }
+    ensures kept { Extends out.old out.new }
 {
     'group: for fields in group {
         push_row(alloc, key, fields, out)?;

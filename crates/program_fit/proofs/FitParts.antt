@@ -3,16 +3,16 @@ use Rattle.std.proofs.Common.{◌≡◌, ℕ, ◌<◌, ◌≤◌, true, List, []
 use Rattle.hal_base.specs.declared.value.Value.{Value}
 use Rattle.hal_base.specs.declared.value.Value.TheVariants.{Int, Text}
 use Rattle.hal_base.specs.Parts.{default_part}
-use Rattle.plain_job.specs.Ends.{key_distance}
+use Rattle.plain_job.specs.Distances.{differ}
 use Rattle.function_language.specs.declared.tree.Function.{Function as Written}
 use Rattle.function_language.specs.declared.tree.Function.TheVariants.{Map, Reduce, Distance, Partition}
 use Rattle.type_checker.specs.declared.uses.Use.{Use}
 use Rattle.type_checker.specs.declared.uses.Use.TheVariants.{Same, Least, Every, Hop, Default, Function}
 use Rattle.type_checker.specs.declared.uses.Uses.{Uses}
-use Rattle.function_eval.specs.Functions.{key_named, partition_gives, ran}
-use Rattle.function_eval.specs.Meanings.{distance_used, meaning_of, partition_used}
-use Rattle.function_eval.specs.Optional.{◌>>=◌, or_zero}
-use Rattle.function_eval.specs.Statements.{State}
+use Rattle.function_meaning.specs.Functions.{key_named, partition_gives, ran}
+use Rattle.function_meaning.specs.Meanings.{distance_used, meaning_of, partition_used}
+use Rattle.function_meaning.specs.Optional.{◌>>=◌, or_zero}
+use Rattle.function_meaning.specs.Statements.{State}
 
 -- ---- each key has a part
 
@@ -52,5 +52,5 @@ module _ (functions : List Written) (parts i : ℕ) (key : Value) (l : 1 ≤ par
 -- ---- the exact stop
 
 -- where no distance is named, it is that of the exact stop
-pub default_distance : (functions : List Written) (uses : Uses) (parts : ℕ) → uses.distance ≡ Default → (key : Value) (old new : List (List Value)) → (meaning_of functions uses parts).distance key old new ≡ key_distance (meaning_of functions uses parts) true key old new
+pub default_distance : (functions : List Written) (uses : Uses) (parts : ℕ) → uses.distance ≡ Default → (key : Value) (old new : List (List Value)) → (meaning_of functions uses parts).distance key old new ≡ differ old new
 default_distance functions uses parts e key old new = ap (λ (u : Use). or_zero (distance_used functions key old new u)) e

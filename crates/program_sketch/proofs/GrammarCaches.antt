@@ -1,13 +1,13 @@
 -- The reader of the caches that are asked for is right.
 use Rattle.std.proofs.Common.{Bool, List, [], codes, cond, false, inl, inr, refl, true, ◌∷◌, ◌≡◌, ◌⊎◌}
 use Rattle.std.proofs.Math.Logic.{⊎_elim}
-use Rattle.function_language.specs.Parsers.{Parser, eat, pure, ◌>>=◌}
-use Rattle.function_language.specs.Pieces.{Piece, plain}
-use Rattle.function_language.proofs.Right.{Exactly, Right, Stops}
-use Rattle.function_language.proofs.Firsts.{Heads, begins_follows}
-use Rattle.function_language.proofs.Parts.{Made, either_made, exactly, last_word, made_begins, made_last, nothing_follows, pure_made, word_then}
-use Rattle.function_language.proofs.Avoiding.{Avoids, Unseen, eat_right, plain_avoids}
-use Rattle.program_sketch.specs.Reading.{any_line, asked, from_mapper, from_output, input_line, mapper_line, no_caches, output_line, output_or_mapper, with_input, with_output}
+use Rattle.program_tokens.specs.steps.Parsers.{Parser, eat, pure, ◌>>=◌}
+use Rattle.program_tokens.specs.Pieces.{Piece, plain}
+use Rattle.program_tokens.proofs.Right.{Exactly, Right, Stops}
+use Rattle.program_tokens.proofs.Firsts.{Heads, begins_follows}
+use Rattle.program_tokens.proofs.Parts.{Made, either_made, exactly, last_word, made_begins, made_last, nothing_follows, pure_made, word_then}
+use Rattle.program_tokens.proofs.Avoiding.{Avoids, Unseen, eat_right, plain_avoids}
+use Rattle.program_sketch.specs.steps.Reading.{any_line, asked, from_mapper, from_output, input_line, mapper_line, no_caches, output_line, output_or_mapper, with_input, with_output}
 use Rattle.program_sketch.specs.Spelled.{asked_pieces}
 use Rattle.program_sketch.specs.declared.sketch.Asked.{Asked}
 

@@ -1,16 +1,16 @@
 -- The reader of the lines above the tables is right.
 use Rattle.std.proofs.Common.{List, [], ap, append_assoc, codes, inl, inr, refl, sym, ◌++◌, ◌∙◌, ◌∷◌, ◌≡◌}
-use Rattle.function_language.specs.Parsers.{pure}
-use Rattle.function_language.specs.Pieces.{Piece, name, natural, plain}
-use Rattle.function_language.specs.declared.tree.Ident.{Ident}
-use Rattle.function_language.specs.declared.tree.Number.{Number}
-use Rattle.function_language.proofs.Right.{Exactly, Right, Spells, Stops, respelled}
-use Rattle.function_language.proofs.Choices.{Either}
-use Rattle.function_language.proofs.Firsts.{Free, begins_follows}
-use Rattle.function_language.proofs.OneToken.{ident_right, natural_right}
-use Rattle.function_language.proofs.Parts.{Made, exactly, free_part, last_part, last_word, made_begins, word_then}
-use Rattle.function_language.proofs.Avoiding.{Avoids, Unseen, eat_right, plain_avoids}
-use Rattle.program_sketch.specs.Reading.{below, head, stop, stop_line}
+use Rattle.program_tokens.specs.steps.Parsers.{pure}
+use Rattle.program_tokens.specs.Pieces.{Piece, name, natural, plain}
+use Rattle.program_tokens.specs.declared.token.Ident.{Ident}
+use Rattle.program_tokens.specs.declared.token.Number.{Number}
+use Rattle.program_tokens.proofs.Right.{Exactly, Right, Spells, Stops, respelled}
+use Rattle.program_tokens.proofs.Choices.{Either}
+use Rattle.program_tokens.proofs.Firsts.{Free, begins_follows}
+use Rattle.program_tokens.proofs.OneToken.{ident_right, natural_right}
+use Rattle.program_tokens.proofs.Parts.{Made, exactly, free_part, last_part, last_word, made_begins, word_then}
+use Rattle.program_tokens.proofs.Avoiding.{Avoids, Unseen, eat_right, plain_avoids}
+use Rattle.program_sketch.specs.steps.Reading.{below, head, stop, stop_line}
 use Rattle.program_sketch.specs.Spelled.{asked_pieces, stop_pieces}
 use Rattle.program_sketch.specs.declared.reader.Head.{Head}
 use Rattle.program_sketch.specs.declared.sketch.Asked.{Asked}

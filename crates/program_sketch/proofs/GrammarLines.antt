@@ -1,13 +1,13 @@
 -- The readers of lines that are a word, a name or a number, and `;` are right.
 use Rattle.std.proofs.Common.{List, [], codes, refl, ℕ, ◌∷◌}
-use Rattle.function_language.specs.Pieces.{Piece, name, natural, plain}
-use Rattle.function_language.specs.declared.tree.Ident.{Ident}
-use Rattle.function_language.specs.declared.tree.Number.{Number}
-use Rattle.function_language.proofs.Right.{Exactly, Right, Stops}
-use Rattle.function_language.proofs.Firsts.{Free}
-use Rattle.function_language.proofs.OneToken.{ident_right, natural_right}
-use Rattle.function_language.proofs.Parts.{exactly, free_part, last_word, word_then}
-use Rattle.program_sketch.specs.Reading.{ident_line, natural_line}
+use Rattle.program_tokens.specs.Pieces.{Piece, name, natural, plain}
+use Rattle.program_tokens.specs.declared.token.Ident.{Ident}
+use Rattle.program_tokens.specs.declared.token.Number.{Number}
+use Rattle.program_tokens.proofs.Right.{Exactly, Right, Stops}
+use Rattle.program_tokens.proofs.Firsts.{Free}
+use Rattle.program_tokens.proofs.OneToken.{ident_right, natural_right}
+use Rattle.program_tokens.proofs.Parts.{exactly, free_part, last_word, word_then}
+use Rattle.program_sketch.specs.steps.Reading.{ident_line, natural_line}
 
 -- a word, a name and `;`
 abbrev pub ident_line_pieces : List ℕ → Ident → List Piece

@@ -1,20 +1,20 @@
 -- The reader of whole programs is right.
 use Rattle.std.proofs.Common.{List, [], ap, append_assoc, codes, refl, sym, ◌++◌, ◌||◌, ◌∙◌, ◌∷◌, ◌≡◌}
-use Rattle.program_tokens.specs.Front.{is_plain}
-use Rattle.function_language.specs.Pieces.{Piece, end, name, plain}
-use Rattle.function_language.specs.Reading.{begins_function}
+use Rattle.program_tokens.specs.steps.Front.{is_plain}
+use Rattle.program_tokens.specs.Pieces.{Piece, end, name, plain}
+use Rattle.function_language.specs.steps.Reading.{begins_function}
 use Rattle.function_language.specs.Spelled.{function_pieces, functions_pieces}
 use Rattle.function_language.specs.declared.tree.Function.{Function}
 use Rattle.function_language.specs.declared.tree.Function.TheVariants.{Distance, Map, Partition, Reduce}
-use Rattle.function_language.specs.declared.tree.Ident.{Ident}
-use Rattle.function_language.proofs.Right.{Exactly, Right}
-use Rattle.function_language.proofs.Choices.{Not}
-use Rattle.function_language.proofs.Firsts.{Free, Heads, Stopping, begins_follows, heads_append}
-use Rattle.function_language.proofs.OneToken.{end_right}
-use Rattle.function_language.proofs.Parts.{exactly, free_part, last_part, made_begins, part}
-use Rattle.function_language.proofs.Avoiding.{Avoids, Unseen, plain_avoids}
+use Rattle.program_tokens.specs.declared.token.Ident.{Ident}
+use Rattle.program_tokens.proofs.Right.{Exactly, Right}
+use Rattle.program_tokens.proofs.Choices.{Not}
+use Rattle.program_tokens.proofs.Firsts.{Free, Heads, Stopping, begins_follows, heads_append}
+use Rattle.program_tokens.proofs.OneToken.{end_right}
+use Rattle.program_tokens.proofs.Parts.{exactly, free_part, last_part, made_begins, part}
+use Rattle.program_tokens.proofs.Avoiding.{Avoids, Unseen, plain_avoids}
 use Rattle.function_language.proofs.GrammarFunctions.{functions_right}
-use Rattle.program_sketch.specs.Reading.{program, sketch_of, whole_program}
+use Rattle.program_sketch.specs.steps.Reading.{program, sketch_of, whole_program}
 use Rattle.program_sketch.specs.Spelled.{head_pieces, program_pieces, steps_pieces, tables_pieces}
 use Rattle.program_sketch.specs.declared.reader.Head.{Head}
 use Rattle.program_sketch.specs.declared.sketch.Sketch.{Sketch}

@@ -1,21 +1,21 @@
 -- The readers of steps are right.
 use Rattle.std.proofs.Common.{Err, List, None, Option, Some, [], ap, append_assoc, codes, false, inl, inr, refl, sym, ℕ, ◌++◌, ◌∙◌, ◌∷◌, ◌≡◌}
 use Rattle.std.specs.List.{flat_map}
-use Rattle.program_tokens.specs.Front.{sees}
+use Rattle.program_tokens.specs.steps.Front.{sees}
 use Rattle.program_tokens.specs.declared.token.Token.{Token}
-use Rattle.function_language.specs.Parsers.{Parser, and_then, expect, pure, ◌>>=◌, ◌>>◌}
-use Rattle.function_language.specs.Parsers as read
-use Rattle.function_language.specs.Pieces.{Piece, name, natural, placed, plain}
-use Rattle.function_language.specs.declared.tree.Ident.{Ident}
-use Rattle.function_language.specs.declared.tree.Number.{Number}
-use Rattle.function_language.proofs.Right.{Exactly, Right, Spells, Stops, respelled}
-use Rattle.function_language.proofs.Choices.{Either}
-use Rattle.function_language.proofs.Firsts.{Free}
-use Rattle.function_language.proofs.OneToken.{expect_line_right, ident_right, natural_right}
-use Rattle.function_language.proofs.Parts.{Made, exactly, free_part, last_part, last_word, nothing_follows, part, pure_made, word_then}
-use Rattle.function_language.proofs.Avoiding.{Unseen, eat_right, mark_follows, peek_right, refused_unseen, refused_unseen_line}
-use Rattle.function_language.proofs.Many.{first_and_repeated, while_from_right}
-use Rattle.program_sketch.specs.Reading.{ident_line, input, only, partition, step, step_rest, steps}
+use Rattle.program_tokens.specs.steps.Parsers.{Parser, and_then, expect, pure, ◌>>=◌, ◌>>◌}
+use Rattle.program_tokens.specs.steps.Parsers as read
+use Rattle.program_tokens.specs.Pieces.{Piece, name, natural, placed, plain}
+use Rattle.program_tokens.specs.declared.token.Ident.{Ident}
+use Rattle.program_tokens.specs.declared.token.Number.{Number}
+use Rattle.program_tokens.proofs.Right.{Exactly, Right, Spells, Stops, respelled}
+use Rattle.program_tokens.proofs.Choices.{Either}
+use Rattle.program_tokens.proofs.Firsts.{Free}
+use Rattle.program_tokens.proofs.OneToken.{expect_line_right, ident_right, natural_right}
+use Rattle.program_tokens.proofs.Parts.{Made, exactly, free_part, last_part, last_word, nothing_follows, part, pure_made, word_then}
+use Rattle.program_tokens.proofs.Avoiding.{Unseen, eat_right, mark_follows, peek_right, refused_unseen, refused_unseen_line}
+use Rattle.program_tokens.proofs.Many.{first_and_repeated, while_from_right}
+use Rattle.program_sketch.specs.steps.Reading.{ident_line, input, only, partition, step, step_rest, steps}
 use Rattle.program_sketch.specs.Spelled.{input_pieces, only_pieces, partition_pieces, step_pieces, steps_pieces}
 use Rattle.program_sketch.specs.declared.sketch.InputSketch.{InputSketch}
 use Rattle.program_sketch.specs.declared.sketch.StepSketch.{StepSketch}

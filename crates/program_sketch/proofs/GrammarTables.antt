@@ -1,22 +1,22 @@
 -- The readers of tables are right.
 use Rattle.std.proofs.Common.{Err, List, [], codes, false, refl, subst, sym, ℕ, ◌++◌, ◌∷◌, ◌≡◌}
 use Rattle.hal_base.specs.declared.value.Kind.{Kind}
-use Rattle.program_tokens.specs.Front.{sees}
+use Rattle.program_tokens.specs.steps.Front.{sees}
 use Rattle.program_tokens.specs.declared.token.Token.{Token}
-use Rattle.function_language.specs.Parsers.{expect, here, pure, quoted, ◌>>=◌, ◌>>◌}
-use Rattle.function_language.specs.Pieces as piece
-use Rattle.function_language.specs.Pieces.{Piece, name, plain}
-use Rattle.function_language.specs.Reading.{kinds}
-use Rattle.function_language.specs.Spelled.{kinds_pieces}
-use Rattle.function_language.specs.declared.tree.Ident.{Ident}
-use Rattle.function_language.proofs.Right.{Exactly, Right, RightAt, Spells, Stops}
-use Rattle.function_language.proofs.Firsts.{Free}
-use Rattle.function_language.proofs.OneToken.{ident_right, quoted_right, text_of_line}
-use Rattle.function_language.proofs.Parts.{Made, exactly, free_part, last_word, word_then}
-use Rattle.function_language.proofs.Avoiding.{Unseen, refused_unseen}
-use Rattle.function_language.proofs.Many.{first_and_repeated}
-use Rattle.function_language.proofs.GrammarKinds.{kinds_right}
-use Rattle.program_sketch.specs.Reading.{table, tables}
+use Rattle.program_tokens.specs.steps.Parsers.{expect, here, pure, quoted, ◌>>=◌, ◌>>◌}
+use Rattle.program_tokens.specs.Pieces as piece
+use Rattle.program_tokens.specs.Pieces.{Piece, name, plain}
+use Rattle.program_tokens.specs.steps.Parsers.{kinds}
+use Rattle.program_tokens.specs.Pieces.{kinds_pieces}
+use Rattle.program_tokens.specs.declared.token.Ident.{Ident}
+use Rattle.program_tokens.proofs.Right.{Exactly, Right, RightAt, Spells, Stops}
+use Rattle.program_tokens.proofs.Firsts.{Free}
+use Rattle.program_tokens.proofs.OneToken.{ident_right, quoted_right, text_of_line}
+use Rattle.program_tokens.proofs.Parts.{Made, exactly, free_part, last_word, word_then}
+use Rattle.program_tokens.proofs.Avoiding.{Unseen, refused_unseen}
+use Rattle.program_tokens.proofs.Many.{first_and_repeated}
+use Rattle.program_tokens.proofs.KindReaders.{kinds_right}
+use Rattle.program_sketch.specs.steps.Reading.{table, tables}
 use Rattle.program_sketch.specs.Spelled.{table_pieces, tables_pieces}
 use Rattle.program_sketch.specs.declared.sketch.TableSketch.{TableSketch}
 

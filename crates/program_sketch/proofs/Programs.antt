@@ -1,30 +1,35 @@
 -- What the reader of whole programs comes to for the tokens of a text.
-use Rattle.std.proofs.Common.{Err, List, Ok, ℕ, ◌≡◌, ◌≢◌, ◌<◌, ◌≤◌, inl, inr, true, false, sym, ◌∙◌, arith}
-use Rattle.program_tokens.specs.Front.{at_end, later, line_of}
+use Rattle.std.proofs.Common.{Err, [], codes, ◌++◌, ◌∷◌, List, Ok, ℕ, ◌≡◌, ◌≢◌, ◌<◌, ◌≤◌, inl, inr, true, false, sym, ◌∙◌, arith}
+use Rattle.program_tokens.specs.steps.Front.{at_end, line_of}
 use Rattle.program_tokens.specs.Tokens.{AreTokensOf}
 use Rattle.program_tokens.specs.declared.token.Token.{Token}
 use Rattle.program_tokens.proofs.Lists.{one_list}
-use Rattle.function_language.specs.declared.fault.SyntaxFault.{SyntaxFault}
-use Rattle.function_language.specs.declared.fault.SyntaxFault.TheVariants.{At, Memory}
-use Rattle.function_language.specs.Texts.{HasFaultAt, IsOfOneTree, IsTextOf, Refuses}
-use Rattle.function_language.proofs.Ended.{end_met, end_missed, end_refused, refuses_read}
-use Rattle.function_language.proofs.Whole as of_texts
+use Rattle.program_tokens.specs.declared.fault.SyntaxFault.{SyntaxFault}
+use Rattle.program_tokens.specs.declared.fault.SyntaxFault.TheVariants.{At, Memory}
+use Rattle.program_tokens.specs.Pieces.{end, name, plain}
+use Rattle.function_language.specs.Spelled.{CanBeSpelled, functions_pieces}
+use Rattle.program_tokens.specs.Pieces.{IsPlace}
+use Rattle.program_tokens.specs.Texts.{HasFaultAt, IsOfOneTree, IsTextOf, Refuses}
+use Rattle.program_tokens.proofs.Ended.{ended_read, fault_refused, unended_refused}
+use Rattle.program_tokens.proofs.Places.{all_back, all_front, text_places}
+use Rattle.program_tokens.proofs.Whole as of_texts
 use Rattle.program_sketch.specs.declared.fault.ProgramFault.TheVariants.{At as WrongAt}
 use Rattle.program_sketch.specs.declared.fault.What.{What}
 use Rattle.program_sketch.specs.Programs.{IsJustProgram, IsMisspelled, IsNotRead, IsProgramText, TextIsOfOneProgram}
-use Rattle.program_sketch.specs.Reading.{program, whole_program}
-use Rattle.program_sketch.specs.Spelled.{program_pieces}
+use Rattle.program_sketch.specs.steps.Reading.{program, whole_program}
+use Rattle.program_sketch.specs.Spelled.{head_pieces, program_pieces, steps_pieces, tables_pieces}
 use Rattle.program_sketch.specs.declared.sketch.Sketch.{Sketch}
 use Rattle.program_sketch.proofs.GrammarPrograms.{inner_pieces, program_right}
 use Rattle.program_sketch.proofs.Inner.{inner, whole}
 
--- what was read is the program of the text
-pub program_read : (text : List ℕ) (ts rest : List Token) (sketch : Sketch) → AreTokensOf text ts → whole_program ts ≡ Ok (sketch, rest) → IsTextOf program_pieces text sketch
-program_read = of_texts.text_read inner_pieces whole inner program_right
-
--- what was refused is where the text has its fault
-pub program_refused : (text : List ℕ) (ts left : List Token) → AreTokensOf text ts → whole_program ts ≡ Err left → HasFaultAt program_pieces text (line_of left)
-program_refused = of_texts.fault_read inner_pieces whole inner program_right
+-- the functions of a text's program can be spelled
+pub program_spelled : (text : List ℕ) (sketch : Sketch) → IsTextOf program_pieces text sketch → CanBeSpelled sketch.functions
+program_spelled text sketch t =
+    let above = head_pieces sketch ++ tables_pieces sketch.tables in
+    let functions = functions_pieces sketch.functions in
+    let below = plain (codes "begin") ∷ name sketch.start ∷ plain (codes ";") ∷ steps_pieces sketch.steps in
+    let all = text_places program_pieces text sketch t in
+    all_back IsPlace above functions (all_front IsPlace (above ++ functions) below (all_front IsPlace (above ++ functions ++ below) (end ∷ []) all))
 
 -- a text is that of one program
 pub program_is_one : IsOfOneTree program_pieces
@@ -34,18 +39,20 @@ program_is_one = of_texts.one_tree inner_pieces whole inner program_right one_li
 pub fault_is_one : (text : List ℕ) (line : ℕ) → HasFaultAt program_pieces text line → ((sketch : Sketch) → IsTextOf program_pieces text sketch → ⊥) × ((other : ℕ) → HasFaultAt program_pieces text other → other ≡ line)
 fault_is_one = of_texts.fault_is_one one_list
 
--- what a fault of the reader says, where it read on or where the end was to come
-pub whole_refused : (text : List ℕ) (ts left : List Token) (f : SyntaxFault) → AreTokensOf text ts → (f ≢ Memory → (program ts ≡ Err left) × (f ≡ At (line_of left))) → Refuses program_pieces text f
-unfolding whole_program
-whole_refused text ts left f are is = refuses_read (program ts) f left is (λ e. program_refused text ts left are (end_refused program ts left e))
-
-pub whole_unended : (text : List ℕ) (ts mid : List Token) (sketch : Sketch) → AreTokensOf text ts → program ts ≡ Ok (sketch, mid) → at_end mid ≡ false → HasFaultAt program_pieces text (line_of mid)
-unfolding whole_program
-whole_unended text ts mid sketch are e not = program_refused text ts mid are (end_missed program ts mid sketch e not)
-
+-- what was read, behind which the end comes, is the program of the text
 pub whole_read : (text : List ℕ) (ts mid : List Token) (sketch : Sketch) → AreTokensOf text ts → program ts ≡ Ok (sketch, mid) → at_end mid ≡ true → IsTextOf program_pieces text sketch
 unfolding whole_program
-whole_read text ts mid sketch are e is = program_read text ts (later mid) sketch are (end_met program ts mid sketch e is)
+whole_read = ended_read inner_pieces whole inner program program_right
+
+-- where the end was to come and does not, the text has its fault
+pub whole_unended : (text : List ℕ) (ts mid : List Token) (sketch : Sketch) → AreTokensOf text ts → program ts ≡ Ok (sketch, mid) → at_end mid ≡ false → HasFaultAt program_pieces text (line_of mid)
+unfolding whole_program
+whole_unended = unended_refused inner_pieces whole inner program program_right
+
+-- so it has where a fault came before
+pub whole_refused : (text : List ℕ) (ts left : List Token) (f : SyntaxFault) → AreTokensOf text ts → (f ≢ Memory → (program ts ≡ Err left) × (f ≡ At (line_of left))) → Refuses program_pieces text f
+unfolding whole_program
+whole_refused = fault_refused inner_pieces whole inner program program_right
 
 -- ---- texts that are not too long
 

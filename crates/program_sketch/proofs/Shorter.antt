@@ -1,9 +1,9 @@
 -- Readers of tables, inputs and steps leave fewer tokens than there were.
 use Rattle.std.proofs.Common.{List, Ok, codes, length, sym, ◌<◌, ◌≡◌}
 use Rattle.program_tokens.specs.declared.token.Token.{Token}
-use Rattle.function_language.proofs.Firsts.{Free}
-use Rattle.function_language.proofs.Shorter.{right_shorter}
-use Rattle.program_sketch.specs.Reading.{input, step, table}
+use Rattle.program_tokens.proofs.Firsts.{Free}
+use Rattle.program_tokens.proofs.Shorter.{right_shorter}
+use Rattle.program_sketch.specs.steps.Reading.{input, step, table}
 use Rattle.program_sketch.specs.declared.sketch.InputSketch.{InputSketch}
 use Rattle.program_sketch.specs.declared.sketch.StepSketch.{StepSketch}
 use Rattle.program_sketch.specs.declared.sketch.TableSketch.{TableSketch}

@@ -1,9 +1,9 @@
 -- A program has a step.
 use Rattle.std.proofs.Common.{◌≤◌, ℕ, List, [], ◌∷◌, ◌++◌, length, arith, codes}
 use Rattle.program_tokens.specs.declared.token.Token.{Token}
-use Rattle.function_language.specs.Pieces.{Piece, Stand, plain, name, end}
+use Rattle.program_tokens.specs.Pieces.{Piece, Stand, plain, name, end}
 use Rattle.function_language.specs.Spelled.{functions_pieces}
-use Rattle.function_language.proofs.Sequences.{cut_tokens}
+use Rattle.program_tokens.proofs.Sequences.{cut_tokens}
 use Rattle.program_sketch.specs.Programs.{IsProgramText}
 use Rattle.program_sketch.specs.Spelled.{head_pieces, steps_pieces, tables_pieces}
 use Rattle.program_sketch.specs.declared.sketch.Sketch.{Sketch}

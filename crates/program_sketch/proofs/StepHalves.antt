@@ -1,10 +1,10 @@
 -- A step is read up to its inputs, and then on from there.
 use Rattle.std.proofs.Common.{List, Ok, Option, [], ap, codes, subst, ℕ, ◌∙◌, ◌≡◌}
-use Rattle.program_tokens.specs.Front.{sees}
+use Rattle.program_tokens.specs.steps.Front.{sees}
 use Rattle.program_tokens.specs.declared.token.Token.{Token}
-use Rattle.function_language.specs.Parsers.{Outcome, Parser, and_then, expect, pure, repeated, ◌>>=◌}
-use Rattle.function_language.specs.declared.tree.Ident.{Ident}
-use Rattle.program_sketch.specs.Reading.{ident_line, input, partition, step_rest}
+use Rattle.program_tokens.specs.steps.Parsers.{Outcome, Parser, and_then, expect, pure, repeated, ◌>>=◌}
+use Rattle.program_tokens.specs.declared.token.Ident.{Ident}
+use Rattle.program_sketch.specs.steps.Reading.{ident_line, input, partition, step_rest}
 use Rattle.program_sketch.specs.declared.sketch.InputSketch.{InputSketch}
 use Rattle.program_sketch.specs.declared.sketch.StepSketch.{StepSketch}
 

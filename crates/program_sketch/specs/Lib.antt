@@ -1,3 +1,3 @@
 pub mod Programs
-pub mod Reading
 pub mod Spelled
+pub mod steps

@@ -1,6 +1,6 @@
 -- When a text is that of a program, and why it is refused.
 use Rattle.std.specs.Prelude.{◌≡◌, ◌⊎◌, ℕ, ◌<◌, ◌≤◌, List, length}
-use Rattle.function_language.specs.Texts.{HasFaultAt, IsTextOf}
+use Rattle.program_tokens.specs.Texts.{HasFaultAt, IsTextOf}
 use Rattle.program_sketch.specs.declared.fault.ProgramFault.{ProgramFault}
 use Rattle.program_sketch.specs.declared.fault.ProgramFault.TheVariants.{At, Memory}
 use Rattle.program_sketch.specs.declared.fault.What.{What}

@@ -1,10 +1,11 @@
 -- How programs are spelled: what stands at each place of their text.
 use Rattle.std.specs.Prelude.{ℕ, cond, List, [], ◌∷◌, ◌++◌, Option, None, Some, codes}
 use Rattle.std.specs.List.{flat_map}
-use Rattle.function_language.specs.declared.tree.Ident.{Ident}
-use Rattle.function_language.specs.declared.tree.Number.{Number}
-use Rattle.function_language.specs.Pieces.{Piece, plain, placed, name, natural, quoted, end, nothing}
-use Rattle.function_language.specs.Spelled.{functions_pieces, kinds_pieces}
+use Rattle.program_tokens.specs.declared.token.Ident.{Ident}
+use Rattle.program_tokens.specs.declared.token.Number.{Number}
+use Rattle.program_tokens.specs.Pieces.{Piece, plain, placed, name, natural, quoted, end, nothing}
+use Rattle.function_language.specs.Spelled.{functions_pieces}
+use Rattle.program_tokens.specs.Pieces.{kinds_pieces}
 use Rattle.program_sketch.specs.declared.sketch.Asked.{Asked}
 use Rattle.program_sketch.specs.declared.sketch.InputSketch.{InputSketch}
 use Rattle.program_sketch.specs.declared.sketch.Sketch.{Sketch}

@@ -1,13 +1,13 @@
 ghost use Rattle.std.specs.Prelude.{◌≡◌, IfErr, IfOk};
-ghost use Rattle.function_language.specs.Texts.{IsTextOf, Refuses};
+ghost use Rattle.function_language.specs.Spelled.{CanBeSpelled};
+ghost use Rattle.program_tokens.specs.Texts.{IsTextOf, Refuses};
 ghost use Rattle.program_sketch.specs.Programs.{IsJustProgram, IsNotRead};
 ghost use Rattle.program_sketch.specs.Spelled.{program_pieces};
 
 use crate::fault::{ProgramFault, What};
 use crate::reader::program;
 use crate::sketch::Sketch;
-use function_language::{SyntaxFault, refused, sees_end};
-use program_tokens::Tokens;
+use program_tokens::{SyntaxFault, Tokens, refused, sees_end};
 use std::alloc::Global;
 
 /// How many bytes the text of a program may have.
@@ -18,6 +18,7 @@ const MOST_BYTES: usize = 1_048_576;
 /// docs/LANGUAGE.md, "Programs".
 pub fn parse_program(alloc: Global, text: &[u8]) -> Result<Sketch, ProgramFault>
     ensures read { IfOk result (IsJustProgram text.now) }
+    ensures spelled { IfOk result (λ sketch. CanBeSpelled sketch.functions) }
     ensures refused { IfErr result (IsNotRead text.now) }
 {
     if text.len() > MOST_BYTES {

@@ -1,15 +1,15 @@
 ghost use Rattle.std.specs.Prelude.{◌≡◌};
-ghost use Rattle.function_language.specs.Parsers.{Reads};
-ghost use Rattle.program_sketch.specs.Reading as reading;
+ghost use Rattle.program_tokens.specs.steps.Parsers.{Reads};
+ghost use Rattle.program_sketch.specs.steps.Reading as reading;
 
 use crate::sketch::{
     Asked, InputSketch, Sketch, StepSketch, StepSketches, StopSketch, TableSketch, TableSketches,
 };
-use function_language::{
-    Ident, Item, Number, Repeated, Row, SyntaxFault, Tree, eat, expect, expect_line, functions,
-    ident, kinds, natural, quoted, read_repeated,
+use function_language::{Row, Tree, functions};
+use program_tokens::{
+    Ident, Item, Number, Repeated, SyntaxFault, Tokens, eat, expect, expect_line, ident, kinds,
+    natural, quoted, read_repeated,
 };
-use program_tokens::Tokens;
 use sqlite_items::Items;
 use std::alloc::Global;
 
@@ -24,7 +24,7 @@ struct Head {
 }
 
 /// Reads a program, but for the end.
-#[tactic(auto, unfolding(crate::specs::Reading::program))]
+#[tactic(auto, unfolding(crate::specs::steps::Reading::program))]
 pub(crate) fn program(alloc: Global, tokens: &mut Tokens) -> Result<Sketch, SyntaxFault>
     ensures { Reads (reading.program tokens.old) result tokens.new }
 {
@@ -59,7 +59,7 @@ fn sketch_of(
 }
 
 /// Reads what stands above the tables.
-#[tactic(auto, unfolding(crate::specs::Reading::head))]
+#[tactic(auto, unfolding(crate::specs::steps::Reading::head))]
 fn read_head(alloc: Global, tokens: &mut Tokens) -> Result<Head, SyntaxFault>
     ensures { Reads (reading.head tokens.old) result tokens.new }
 {
@@ -78,7 +78,7 @@ fn read_head(alloc: Global, tokens: &mut Tokens) -> Result<Head, SyntaxFault>
 }
 
 /// Reads this word, a name and `;`.
-#[tactic(auto, unfolding(crate::specs::Reading::ident_line))]
+#[tactic(auto, unfolding(crate::specs::steps::Reading::ident_line))]
 fn ident_line(alloc: Global, tokens: &mut Tokens, word: &[u8]) -> Result<Ident, SyntaxFault>
     ensures { Reads (reading.ident_line word.now tokens.old) result tokens.new }
 {
@@ -89,7 +89,7 @@ fn ident_line(alloc: Global, tokens: &mut Tokens, word: &[u8]) -> Result<Ident, 
 }
 
 /// Reads this word, a number and `;`.
-#[tactic(auto, unfolding(crate::specs::Reading::natural_line))]
+#[tactic(auto, unfolding(crate::specs::steps::Reading::natural_line))]
 fn natural_line(alloc: Global, tokens: &mut Tokens, word: &[u8]) -> Result<Number, SyntaxFault>
     ensures { Reads (reading.natural_line word.now tokens.old) result tokens.new }
 {
@@ -100,7 +100,7 @@ fn natural_line(alloc: Global, tokens: &mut Tokens, word: &[u8]) -> Result<Numbe
 }
 
 /// Reads when the program stops.
-#[tactic(auto, unfolding(crate::specs::Reading::stop_line))]
+#[tactic(auto, unfolding(crate::specs::steps::Reading::stop_line))]
 fn stop_line(alloc: Global, tokens: &mut Tokens) -> Result<StopSketch, SyntaxFault>
     ensures { Reads (reading.stop_line tokens.old) result tokens.new }
 {
@@ -110,7 +110,7 @@ fn stop_line(alloc: Global, tokens: &mut Tokens) -> Result<StopSketch, SyntaxFau
     Ok(found)
 }
 
-#[tactic(auto, unfolding(crate::specs::Reading::stop))]
+#[tactic(auto, unfolding(crate::specs::steps::Reading::stop))]
 fn stop(alloc: Global, tokens: &mut Tokens) -> Result<StopSketch, SyntaxFault>
     ensures { Reads (reading.stop tokens.old) result tokens.new }
 {
@@ -120,7 +120,7 @@ fn stop(alloc: Global, tokens: &mut Tokens) -> Result<StopSketch, SyntaxFault>
     below(alloc, tokens)
 }
 
-#[tactic(auto, unfolding(crate::specs::Reading::below))]
+#[tactic(auto, unfolding(crate::specs::steps::Reading::below))]
 fn below(alloc: Global, tokens: &mut Tokens) -> Result<StopSketch, SyntaxFault>
     ensures { Reads (reading.below tokens.old) result tokens.new }
 {
@@ -132,7 +132,7 @@ fn below(alloc: Global, tokens: &mut Tokens) -> Result<StopSketch, SyntaxFault>
 }
 
 /// Reads the caches that are asked for, if any.
-#[tactic(auto, unfolding(crate::specs::Reading::asked))]
+#[tactic(auto, unfolding(crate::specs::steps::Reading::asked))]
 fn asked(alloc: Global, tokens: &mut Tokens) -> Result<Asked, SyntaxFault>
     ensures { Reads (reading.asked tokens.old) result tokens.new }
 {
@@ -149,7 +149,7 @@ const NO_CACHES: Asked = Asked {
 };
 
 /// Reads on behind the first `cache`.
-#[tactic(auto, unfolding(crate::specs::Reading::any_line, crate::specs::Reading::input_line))]
+#[tactic(auto, unfolding(crate::specs::steps::Reading::any_line, crate::specs::steps::Reading::input_line))]
 fn any_line(alloc: Global, tokens: &mut Tokens) -> Result<Asked, SyntaxFault>
     ensures { Reads (reading.any_line tokens.old) result tokens.new }
 {
@@ -166,7 +166,7 @@ fn any_line(alloc: Global, tokens: &mut Tokens) -> Result<Asked, SyntaxFault>
 }
 
 /// Reads the caches from that of the reducer's output on.
-#[tactic(auto, unfolding(crate::specs::Reading::from_output))]
+#[tactic(auto, unfolding(crate::specs::steps::Reading::from_output))]
 fn from_output(alloc: Global, tokens: &mut Tokens) -> Result<Asked, SyntaxFault>
     ensures { Reads (reading.from_output tokens.old) result tokens.new }
 {
@@ -177,7 +177,7 @@ fn from_output(alloc: Global, tokens: &mut Tokens) -> Result<Asked, SyntaxFault>
 }
 
 /// Reads on behind a `cache` that is not that of the reducer's input.
-#[tactic(auto, unfolding(crate::specs::Reading::output_or_mapper, crate::specs::Reading::output_line))]
+#[tactic(auto, unfolding(crate::specs::steps::Reading::output_or_mapper, crate::specs::steps::Reading::output_line))]
 fn output_or_mapper(alloc: Global, tokens: &mut Tokens) -> Result<Asked, SyntaxFault>
     ensures { Reads (reading.output_or_mapper tokens.old) result tokens.new }
 {
@@ -194,7 +194,7 @@ fn output_or_mapper(alloc: Global, tokens: &mut Tokens) -> Result<Asked, SyntaxF
 }
 
 /// Reads the cache of the mapper's input, if it is asked for.
-#[tactic(auto, unfolding(crate::specs::Reading::from_mapper))]
+#[tactic(auto, unfolding(crate::specs::steps::Reading::from_mapper))]
 fn from_mapper(alloc: Global, tokens: &mut Tokens) -> Result<Asked, SyntaxFault>
     ensures { Reads (reading.from_mapper tokens.old) result tokens.new }
 {
@@ -204,7 +204,7 @@ fn from_mapper(alloc: Global, tokens: &mut Tokens) -> Result<Asked, SyntaxFault>
     mapper_line(alloc, tokens)
 }
 
-#[tactic(auto, unfolding(crate::specs::Reading::mapper_line))]
+#[tactic(auto, unfolding(crate::specs::steps::Reading::mapper_line))]
 fn mapper_line(alloc: Global, tokens: &mut Tokens) -> Result<Asked, SyntaxFault>
     ensures { Reads (reading.mapper_line tokens.old) result tokens.new }
 {
@@ -218,7 +218,7 @@ fn mapper_line(alloc: Global, tokens: &mut Tokens) -> Result<Asked, SyntaxFault>
 }
 
 /// Reads one table or more.
-#[tactic(auto, unfolding(crate::specs::Reading::tables))]
+#[tactic(auto, unfolding(crate::specs::steps::Reading::tables))]
 fn tables(alloc: Global, tokens: &mut Tokens) -> Result<TableSketches, SyntaxFault>
     ensures { Reads (reading.tables tokens.old) result tokens.new }
 {
@@ -227,7 +227,7 @@ fn tables(alloc: Global, tokens: &mut Tokens) -> Result<TableSketches, SyntaxFau
     read_repeated(alloc, tokens, found)
 }
 
-#[tactic(auto, unfolding(crate::specs::Reading::table))]
+#[tactic(auto, unfolding(crate::specs::steps::Reading::table))]
 fn table(alloc: Global, tokens: &mut Tokens) -> Result<TableSketch, SyntaxFault>
     ensures { Reads (reading.table tokens.old) result tokens.new }
 {
@@ -246,7 +246,7 @@ fn table(alloc: Global, tokens: &mut Tokens) -> Result<TableSketch, SyntaxFault>
 }
 
 impl Item for TableSketch {
-    ghost use Rattle.program_sketch.specs.Reading.{table as table_reader};
+    ghost use Rattle.program_sketch.specs.steps.Reading.{table as table_reader};
 
     ghost reader = { table_reader };
 
@@ -258,7 +258,7 @@ impl Item for TableSketch {
 
 impl Repeated for TableSketch {
     ghost use Rattle.std.specs.Prelude.{codes};
-    ghost use Rattle.program_tokens.specs.Front.{sees};
+    ghost use Rattle.program_tokens.specs.steps.Front.{sees};
 
     ghost begun_by = { sees (codes "table") };
 
@@ -268,7 +268,7 @@ impl Repeated for TableSketch {
 }
 
 /// Reads one step or more.
-#[tactic(auto, unfolding(crate::specs::Reading::steps))]
+#[tactic(auto, unfolding(crate::specs::steps::Reading::steps))]
 fn steps(alloc: Global, tokens: &mut Tokens) -> Result<StepSketches, SyntaxFault>
     ensures { Reads (reading.steps tokens.old) result tokens.new }
 {
@@ -278,7 +278,7 @@ fn steps(alloc: Global, tokens: &mut Tokens) -> Result<StepSketches, SyntaxFault
 }
 
 /// Reads a step that reads this stream besides its tables.
-#[tactic(auto, unfolding(crate::specs::Reading::step))]
+#[tactic(auto, unfolding(crate::specs::steps::Reading::step))]
 fn step(alloc: Global, tokens: &mut Tokens, stream: &[u8]) -> Result<StepSketch, SyntaxFault>
     ensures { Reads (reading.step stream.now tokens.old) result tokens.new }
 {
@@ -289,7 +289,7 @@ fn step(alloc: Global, tokens: &mut Tokens, stream: &[u8]) -> Result<StepSketch,
 }
 
 /// Reads what stands in a step behind the word of its stream.
-#[tactic(auto, unfolding(crate::specs::Reading::step_rest))]
+#[tactic(auto, unfolding(crate::specs::steps::Reading::step_rest))]
 fn step_rest(alloc: Global, tokens: &mut Tokens, line: u64) -> Result<StepSketch, SyntaxFault>
     ensures { Reads (reading.step_rest line tokens.old) result tokens.new }
 {
@@ -309,7 +309,7 @@ fn step_rest(alloc: Global, tokens: &mut Tokens, line: u64) -> Result<StepSketch
 
 impl Item for StepSketch {
     ghost use Rattle.std.specs.Prelude.{codes};
-    ghost use Rattle.program_sketch.specs.Reading.{step as step_reader};
+    ghost use Rattle.program_sketch.specs.steps.Reading.{step as step_reader};
 
     ghost reader = { step_reader (codes "prev") };
 
@@ -321,7 +321,7 @@ impl Item for StepSketch {
 
 impl Repeated for StepSketch {
     ghost use Rattle.std.specs.Prelude.{codes};
-    ghost use Rattle.program_tokens.specs.Front.{sees};
+    ghost use Rattle.program_tokens.specs.steps.Front.{sees};
 
     ghost begun_by = { sees (codes "step") };
 
@@ -331,7 +331,7 @@ impl Repeated for StepSketch {
 }
 
 /// Reads a table that a step reads.
-#[tactic(auto, unfolding(crate::specs::Reading::input))]
+#[tactic(auto, unfolding(crate::specs::steps::Reading::input))]
 fn input(alloc: Global, tokens: &mut Tokens) -> Result<InputSketch, SyntaxFault>
     ensures { Reads (reading.input tokens.old) result tokens.new }
 {
@@ -343,7 +343,7 @@ fn input(alloc: Global, tokens: &mut Tokens) -> Result<InputSketch, SyntaxFault>
 }
 
 impl Item for InputSketch {
-    ghost use Rattle.program_sketch.specs.Reading.{input as input_reader};
+    ghost use Rattle.program_sketch.specs.steps.Reading.{input as input_reader};
 
     ghost reader = { input_reader };
 
@@ -355,7 +355,7 @@ impl Item for InputSketch {
 
 impl Repeated for InputSketch {
     ghost use Rattle.std.specs.Prelude.{codes};
-    ghost use Rattle.program_tokens.specs.Front.{sees};
+    ghost use Rattle.program_tokens.specs.steps.Front.{sees};
 
     ghost begun_by = { sees (codes "table") };
 
@@ -365,7 +365,7 @@ impl Repeated for InputSketch {
 }
 
 /// Reads the one round in which a table is read, if it is not read in each.
-#[tactic(auto, unfolding(crate::specs::Reading::only))]
+#[tactic(auto, unfolding(crate::specs::steps::Reading::only))]
 fn only(alloc: Global, tokens: &mut Tokens) -> Result<Option<Number>, SyntaxFault>
     ensures { Reads (reading.only tokens.old) result tokens.new }
 {
@@ -377,7 +377,7 @@ fn only(alloc: Global, tokens: &mut Tokens) -> Result<Option<Number>, SyntaxFaul
 }
 
 /// Reads the partition of a step, if it has one.
-#[tactic(auto, unfolding(crate::specs::Reading::partition))]
+#[tactic(auto, unfolding(crate::specs::steps::Reading::partition))]
 fn partition(alloc: Global, tokens: &mut Tokens) -> Result<Option<Ident>, SyntaxFault>
     ensures { Reads (reading.partition tokens.old) result tokens.new }
 {

@@ -1,5 +1,6 @@
-use function_language::{Ident, Number, Row, Tree};
+use function_language::{Row, Tree};
 use hal_base::Text;
+use program_tokens::{Ident, Number};
 use sqlite_items::Items;
 
 /// A table of a program, and the file that it is read from. The `line` is that of the file's name.

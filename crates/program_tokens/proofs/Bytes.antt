@@ -10,7 +10,7 @@ use Rattle.std.proofs.lemmas.Fmt.{decimal_nonempty, digits_decimal}
 use Rattle.std.proofs.lemmas.Slice.Eq.{bytes_eq-Decides}
 use Rattle.std.proofs.lemmas.Str.Parse.{IsDigitsTest, IsNumeralModel, numerals_by_value}
 use Rattle.hal_base.specs.Text.{IsText}
-use Rattle.program_tokens.specs.Lexing.{is_mark, word_front, word_rest}
+use Rattle.program_tokens.specs.steps.Lexing.{is_mark, word_front, word_rest}
 use Rattle.program_tokens.specs.Tokens.{begins_in_word, ends_in_word, marks}
 use Rattle.program_tokens.specs.Words.{begins_lower, is_lower, is_name_byte, is_word, is_word_byte}
 

@@ -7,7 +7,7 @@ use Rattle.std.proofs.lemmas.Bool.{and_from, and_parts, cond_both, leb-true, le-
 use Rattle.hal_base.specs.Text.{IsText}
 use Rattle.program_tokens.specs.declared.token.Lexeme.{Lexeme}
 use Rattle.program_tokens.specs.declared.token.Lexeme.TheVariants.{Plain, Int, Quoted, Bad, End}
-use Rattle.program_tokens.specs.Lexing.{Cut, as_number, cut, cut_dash, is_arrow, cut_escaped, cut_quoted, cut_word, is_mark, is_printable, number_of, word_front, word_rest}
+use Rattle.program_tokens.specs.steps.Lexing.{Cut, as_number, cut, cut_dash, is_arrow, cut_escaped, cut_quoted, cut_word, is_mark, is_printable, number_of, word_front, word_rest}
 use Rattle.program_tokens.specs.Tokens.{StandsBefore, begins_in_word, ends_in_word, escaped, marks}
 use Rattle.program_tokens.specs.Words.{is_word, is_word_byte}
 use Rattle.program_tokens.proofs.Bytes.{AreDigits, IsOther, apart_from, decimal_is_digits, digit_no_lower, digit_range, digits_of_word, front_again, front_and_rest, mark_byte_each, marks_each, of_word, word_has, word_is_other}
@@ -107,21 +107,21 @@ cut_again End rest text s = absurd s.is
 -- ---- what is cut stands at the front
 
 -- this was cut from a text that has something
-abbrev pub Found : Lexeme → List ℕ → List ℕ → Type 0
-Found (Plain word) rest text = StandsBefore (Plain word) rest text
-Found (Int n) rest text = StandsBefore (Int n) rest text
-Found (Quoted quoted) rest text = StandsBefore (Quoted quoted) rest text
-Found Bad rest text = rest ≡ text
-Found End rest text = ⊥
+abbrev pub CutStands : Lexeme → List ℕ → List ℕ → Type 0
+CutStands (Plain word) rest text = StandsBefore (Plain word) rest text
+CutStands (Int n) rest text = StandsBefore (Int n) rest text
+CutStands (Quoted quoted) rest text = StandsBefore (Quoted quoted) rest text
+CutStands Bad rest text = rest ≡ text
+CutStands End rest text = ⊥
 
 -- the same, of a token with what is behind it
-abbrev FoundIn : List ℕ → Cut → Type 0
-FoundIn text c = Found c.0 c.1 text
+abbrev CutStandsIn : List ℕ → Cut → Type 0
+CutStandsIn text c = CutStands c.0 c.1 text
 
 -- what was cut as a number
-number_found : (piece rest text : List ℕ) → text ≡ piece ++ rest → begins_in_word rest ≡ false → FoundIn text (as_number (number_of piece) rest text)
+number_found : (piece rest text : List ℕ) → text ≡ piece ++ rest → begins_in_word rest ≡ false → CutStandsIn text (as_number (number_of piece) rest text)
 number_found piece rest text whole apart =
-    elim (number_of piece) as (λ o. number_of piece ≡ o → FoundIn text (as_number o rest text)) [
+    elim (number_of piece) as (λ o. number_of piece ≡ o → CutStandsIn text (as_number o rest text)) [
       | None ↦ λ e. refl
       | Some n ↦ λ e.
           let s = number_spelled piece n e in
@@ -129,10 +129,10 @@ number_found piece rest text whole apart =
     ] refl
 
 -- what was cut as a word
-word_found : (text : List ℕ) → FoundIn text (cut_word text)
+word_found : (text : List ℕ) → CutStandsIn text (cut_word text)
 word_found text =
     let f = front_and_rest text in
-    cond_both (is_word (word_front text)) (Plain (word_front text), word_rest text) (as_number (number_of (word_front text)) (word_rest text) text) (FoundIn text)
+    cond_both (is_word (word_front text)) (Plain (word_front text), word_rest text) (as_number (number_of (word_front text)) (word_rest text) text) (CutStandsIn text)
     (λ w. record { is = or_left (is_word (word_front text)) (list_any (bytes_eq (word_front text)) marks) w; spelled = f.0; apart = and_right (ends_in_word (word_front text)) (begins_in_word (word_rest text)) f.1 })
     (λ w. number_found (word_front text) (word_rest text) text f.0 f.1)
 
@@ -141,11 +141,11 @@ arrow_found : (text : List ℕ) → is_arrow text ≡ true → StandsBefore (Pla
 arrow_found [] a = cc
 arrow_found (b ∷ text) a = record { is = refl; spelled = ap (λ x. 45 ∷ x ∷ text) (eqb-true b 62 a); apart = refl }
 
-dash_found : (text : List ℕ) → FoundIn (45 ∷ text) (cut_dash text)
+dash_found : (text : List ℕ) → CutStandsIn (45 ∷ text) (cut_dash text)
 dash_found text =
     let f = front_and_rest text in
     let number = as_number (number_of (45 ∷ word_front text)) (word_rest text) (45 ∷ text) in
-    cond_both (is_arrow text) (Plain (45 ∷ 62 ∷ []), drop 1 text) number (FoundIn (45 ∷ text)) (arrow_found text)
+    cond_both (is_arrow text) (Plain (45 ∷ 62 ∷ []), drop 1 text) number (CutStandsIn (45 ∷ text)) (arrow_found text)
     (λ a. number_found (45 ∷ word_front text) (word_rest text) (45 ∷ text) (ap (λ bytes. 45 ∷ bytes) f.0) f.1)
 
 -- what was cut as a mark
@@ -205,24 +205,24 @@ closed_found all got text whole is = record {
 }
 
 mutual
-  quoted_found : (all got text : List ℕ) → all ≡ 34 ∷ (escaped got ++ text) → IsText got → FoundIn all (cut_quoted all got text)
+  quoted_found : (all got text : List ℕ) → all ≡ 34 ∷ (escaped got ++ text) → IsText got → CutStandsIn all (cut_quoted all got text)
   quoted_found all got [] whole is = refl
   quoted_found all got (b ∷ text) whole is =
-      cond_both (nat_eq b 34) (Quoted got, text) (cond (nat_eq b 92) (cut_escaped all got text) (cond (is_printable b && nat_lt (length got) 255) (cut_quoted all (got ++ b ∷ []) text) (Bad, all))) (FoundIn all)
+      cond_both (nat_eq b 34) (Quoted got, text) (cond (nat_eq b 92) (cut_escaped all got text) (cond (is_printable b && nat_lt (length got) 255) (cut_quoted all (got ++ b ∷ []) text) (Bad, all))) (CutStandsIn all)
       (λ q. closed_found all got text (subst (λ x. all ≡ 34 ∷ (escaped got ++ x ∷ text)) (eqb-true b 34 q) whole) is)
-      (λ q. cond_both (nat_eq b 92) (cut_escaped all got text) (cond (is_printable b && nat_lt (length got) 255) (cut_quoted all (got ++ b ∷ []) text) (Bad, all)) (FoundIn all)
+      (λ q. cond_both (nat_eq b 92) (cut_escaped all got text) (cond (is_printable b && nat_lt (length got) 255) (cut_quoted all (got ++ b ∷ []) text) (Bad, all)) (CutStandsIn all)
       (λ s. escaped_found all got text (subst (λ x. all ≡ 34 ∷ (escaped got ++ x ∷ text)) (eqb-true b 92 s) whole) is)
-      (λ s. cond_both (is_printable b && nat_lt (length got) 255) (cut_quoted all (got ++ b ∷ []) text) (Bad, all) (FoundIn all)
+      (λ s. cond_both (is_printable b && nat_lt (length got) 255) (cut_quoted all (got ++ b ∷ []) text) (Bad, all) (CutStandsIn all)
       (λ t.
       let parts = and_parts (is_printable b) (nat_lt (length got) 255) t in
       let range = and_parts (nat_le 32 b) (nat_le b 126) parts.0 in
       quoted_found all (got ++ b ∷ []) text (plain_more all got b text whole q s) (longer_text got b is (leb-true 32 b range.0) (leb-true b 126 range.1) parts.1))
       (λ t. refl)))
 
-  escaped_found : (all got text : List ℕ) → all ≡ 34 ∷ (escaped got ++ 92 ∷ text) → IsText got → FoundIn all (cut_escaped all got text)
+  escaped_found : (all got text : List ℕ) → all ≡ 34 ∷ (escaped got ++ 92 ∷ text) → IsText got → CutStandsIn all (cut_escaped all got text)
   escaped_found all got [] whole is = refl
   escaped_found all got (b ∷ text) whole is =
-      cond_both ((nat_eq b 34 || nat_eq b 92) && nat_lt (length got) 255) (cut_quoted all (got ++ b ∷ []) text) (Bad, all) (FoundIn all)
+      cond_both ((nat_eq b 34 || nat_eq b 92) && nat_lt (length got) 255) (cut_quoted all (got ++ b ∷ []) text) (Bad, all) (CutStandsIn all)
       (λ t.
       let parts = and_parts (nat_eq b 34 || nat_eq b 92) (nat_lt (length got) 255) t in
       let range = special_range b parts.0 in
@@ -230,13 +230,13 @@ mutual
       (λ t. refl)
 
 -- what is cut from a text that has something stands at its front, or is no token
-pub cut_found : (b : ℕ) (text : List ℕ) → FoundIn (b ∷ text) (cut (b ∷ text))
+pub cut_found : (b : ℕ) (text : List ℕ) → CutStandsIn (b ∷ text) (cut (b ∷ text))
 cut_found b text =
     let number = cond (nat_eq b 45) (cut_dash text) (cut_word (b ∷ text)) in
     let quote = cond (nat_eq b 34) (cut_quoted (b ∷ text) [] text) number in
-    cond_both (is_mark b) (Plain (b ∷ []), text) quote (FoundIn (b ∷ text)) (λ m. mark_found b text m)
-    (λ m. cond_both (nat_eq b 34) (cut_quoted (b ∷ text) [] text) number (FoundIn (b ∷ text))
+    cond_both (is_mark b) (Plain (b ∷ []), text) quote (CutStandsIn (b ∷ text)) (λ m. mark_found b text m)
+    (λ m. cond_both (nat_eq b 34) (cut_quoted (b ∷ text) [] text) number (CutStandsIn (b ∷ text))
     (λ q. quoted_found (b ∷ text) [] text (ap (λ x. x ∷ text) (eqb-true b 34 q)) (omega arith, tt))
-    (λ q. cond_both (nat_eq b 45) (cut_dash text) (cut_word (b ∷ text)) (FoundIn (b ∷ text))
-    (λ d. subst (λ x. FoundIn (x ∷ text) (cut_dash text)) (sym (eqb-true b 45 d)) (dash_found text))
+    (λ q. cond_both (nat_eq b 45) (cut_dash text) (cut_word (b ∷ text)) (CutStandsIn (b ∷ text))
+    (λ d. subst (λ x. CutStandsIn (x ∷ text) (cut_dash text)) (sym (eqb-true b 45 d)) (dash_found text))
     (λ d. word_found (b ∷ text))))

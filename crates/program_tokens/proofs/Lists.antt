@@ -1,11 +1,12 @@
 -- The list of a text's tokens: it is cut one token after another, and there is no other.
-use Rattle.std.proofs.Common.{◌≡◌, ℕ, zero, suc, ◌<◌, ◌≤◌, ◌+◌, ◌-◌, true, false, cond, nat_eq, List, [], ◌∷◌, refl, sym, ap, ◌∙◌, subst, length, arith}
+use Rattle.std.proofs.Common.{◌≡◌, ℕ, zero, suc, ◌<◌, ◌≤◌, ◌+◌, ◌-◌, true, false, cond, nat_eq, List, [], ◌∷◌, refl, sym, ap, ◌∙◌, subst, length, arith, true≢false}
 use Rattle.program_tokens.specs.declared.token.Lexeme.{Lexeme}
 use Rattle.program_tokens.specs.declared.token.Lexeme.TheVariants.{Plain, Int, Quoted, Bad, End}
 use Rattle.program_tokens.specs.declared.token.Token.{Token}
-use Rattle.program_tokens.specs.Lexing.{Cut, behind, cut, first_tokens, tokens_of}
-use Rattle.program_tokens.specs.Tokens.{AreTokens, AreTokensOf, Follows, HasNoToken, IsSpelled, StandsBefore, TextHasOneTokenList, behind_comment, from_token, is_blank, is_spelled, line_ends}
-use Rattle.program_tokens.proofs.Cutting.{Found, cut_again, cut_found}
+use Rattle.program_tokens.specs.steps.Lexing.{Cut, behind, cut, first_tokens, tokens_of}
+use Rattle.program_tokens.specs.Tokens.{AreTokens, AreTokensOf, Follows, HasNoToken, IsSpelled, StandsBefore, TextHasOneTokenList, behind_comment, from_token, is_blank, line_ends}
+use Rattle.program_tokens.specs.steps.Front.{AreSpelled, is_spelled}
+use Rattle.program_tokens.proofs.Cutting.{CutStands, cut_again, cut_found}
 use Rattle.program_tokens.proofs.Spelled.{IsLeft, left_behind}
 
 -- ---- what is skipped
@@ -48,7 +49,7 @@ mutual
 
 -- ---- what is cut
 
-found_left : (lexeme : Lexeme) (rest text : List ℕ) → Found lexeme rest text → is_spelled lexeme ≡ true → IsLeft rest text
+found_left : (lexeme : Lexeme) (rest text : List ℕ) → CutStands lexeme rest text → is_spelled lexeme ≡ true → IsLeft rest text
 found_left (Plain word) rest text f s = left_behind (Plain word) rest text f
 found_left (Int n) rest text f s = left_behind (Int n) rest text f
 found_left (Quoted quoted) rest text f s = left_behind (Quoted quoted) rest text f
@@ -60,7 +61,7 @@ cut_left : (text : List ℕ) → is_spelled (cut text).0 ≡ true → IsLeft (cu
 cut_left [] s = cc
 cut_left (b ∷ text) s = found_left (cut (b ∷ text)).0 (cut (b ∷ text)).1 (b ∷ text) (cut_found b text) s
 
-found_lines : (lexeme : Lexeme) (rest text : List ℕ) → Found lexeme rest text → line_ends rest ≡ line_ends text
+found_lines : (lexeme : Lexeme) (rest text : List ℕ) → CutStands lexeme rest text → line_ends rest ≡ line_ends text
 found_lines (Plain word) rest text f = (left_behind (Plain word) rest text f).lines
 found_lines (Int n) rest text f = (left_behind (Int n) rest text f).lines
 found_lines (Quoted quoted) rest text f = (left_behind (Quoted quoted) rest text f).lines
@@ -138,7 +139,7 @@ no_token b text rest e = record {
 }
 
 -- what is cut follows
-follows_cut : (last b : ℕ) (text rest : List ℕ) (lexeme : Lexeme) (tokens : List Token) → cut (b ∷ text) ≡ (lexeme, rest) → Found lexeme rest (b ∷ text) → (StandsBefore lexeme rest (b ∷ text) → AreTokens last rest tokens) → Follows lexeme (b ∷ text) (behind lexeme tokens) (λ rest. AreTokens last rest (behind lexeme tokens))
+follows_cut : (last b : ℕ) (text rest : List ℕ) (lexeme : Lexeme) (tokens : List Token) → cut (b ∷ text) ≡ (lexeme, rest) → CutStands lexeme rest (b ∷ text) → (StandsBefore lexeme rest (b ∷ text) → AreTokens last rest tokens) → Follows lexeme (b ∷ text) (behind lexeme tokens) (λ rest. AreTokens last rest (behind lexeme tokens))
 follows_cut last b text rest (Plain word) tokens e f on = (rest, f, on f)
 follows_cut last b text rest (Int n) tokens e f on = (rest, f, on f)
 follows_cut last b text rest (Quoted quoted) tokens e f on = (rest, f, on f)
@@ -166,6 +167,33 @@ are_tokens (suc n) last text a l =
 pub tokens_are : (text : List ℕ) → AreTokensOf text (tokens_of (1 + line_ends text) text)
 unfolding tokens_of
 tokens_are text = are_tokens (suc (length text)) (1 + line_ends text) text (omega arith) (omega arith)
+
+-- ---- and can be spelled
+
+follows_spelled : (lexeme : Lexeme) (text : List ℕ) (tokens : List Token) (on : List ℕ → Type 0) → Follows lexeme text tokens on → ((rest : List ℕ) → on rest → AreSpelled tokens) → (is_spelled lexeme ≡ true → IsSpelled lexeme) × AreSpelled tokens
+follows_spelled (Plain word) text tokens on f more = (λ s. f.1.is, more f.0 f.2)
+follows_spelled (Int n) text tokens on f more = (λ s. f.1.is, more f.0 f.2)
+follows_spelled (Quoted quoted) text tokens on f more = (λ s. f.1.is, more f.0 f.2)
+follows_spelled Bad text tokens on f more = (λ s. absurd (true≢false (sym s)), subst AreSpelled (sym f.1) tt)
+follows_spelled End text tokens on f more = (λ s. absurd (true≢false (sym s)), subst AreSpelled (sym f.1) tt)
+
+-- the tokens of a text can be spelled
+pub are_spelled : (last : ℕ) (text : List ℕ) (tokens : List Token) → AreTokens last text tokens → AreSpelled tokens
+are_spelled last text [] a = absurd a
+are_spelled last text (token ∷ tokens) a = follows_spelled token.lexeme (from_token text) tokens (λ rest. AreTokens last rest tokens) a.1 (λ rest on. are_spelled last rest tokens on)
+
+-- so can those of what is left of a text, whatever the number of its line is
+pub left_spelled : (line : ℕ) (text : List ℕ) → AreSpelled (tokens_of (line + line_ends text) text)
+unfolding tokens_of
+left_spelled line text = are_spelled (line + line_ends text) text (first_tokens (suc (length text)) (line + line_ends text) text) (are_tokens (suc (length text)) (line + line_ends text) text (omega arith) (omega arith))
+
+-- and those behind a token, if it goes before others
+pub behind_spelled : (lexeme : Lexeme) (tokens : List Token) → AreSpelled tokens → AreSpelled (behind lexeme tokens)
+behind_spelled (Plain word) tokens s = s
+behind_spelled (Int n) tokens s = s
+behind_spelled (Quoted text) tokens s = s
+behind_spelled Bad tokens s = tt
+behind_spelled End tokens s = tt
 
 -- ---- and there are no others
 
@@ -197,7 +225,7 @@ standing_is_cut lexeme rest text tokens on s o =
       others = subst (λ (c : Cut). Behind c.0 c.1 tokens on) (sym e) (stands_behind lexeme rest tokens on s.is o);
     }
 
-none_is_cut : (lexeme : Lexeme) (rest text : List ℕ) (tokens : List Token) (on : List ℕ → Type 0) → Found lexeme rest text → HasNoToken text → tokens ≡ [] → (lexeme ≡ Bad) × Behind lexeme rest tokens on
+none_is_cut : (lexeme : Lexeme) (rest text : List ℕ) (tokens : List Token) (on : List ℕ → Type 0) → CutStands lexeme rest text → HasNoToken text → tokens ≡ [] → (lexeme ≡ Bad) × Behind lexeme rest tokens on
 none_is_cut (Plain word) rest text tokens on f n e = absurd (n.none (Plain word) rest f)
 none_is_cut (Int i) rest text tokens on f n e = absurd (n.none (Int i) rest f)
 none_is_cut (Quoted quoted) rest text tokens on f n e = absurd (n.none (Quoted quoted) rest f)

@@ -1,5 +1,5 @@
-pub mod Cursor
-pub mod Front
-pub mod Lexing
+pub mod Pieces
+pub mod Texts
 pub mod Tokens
 pub mod Words
+pub mod steps

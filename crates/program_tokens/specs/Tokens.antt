@@ -54,14 +54,6 @@ IsSpelled (Quoted text) = IsText text
 IsSpelled Bad = ⊥
 IsSpelled End = ⊥
 
--- the same, of a token that was read
-abbrev pub is_spelled : Lexeme → Bool
-is_spelled (Plain word) = true
-is_spelled (Int n) = true
-is_spelled (Quoted text) = true
-is_spelled Bad = false
-is_spelled End = false
-
 -- the last byte is one of a word
 abbrev pub ends_in_word : List ℕ → Bool
 ends_in_word [] = false
@@ -100,11 +92,6 @@ AreTokens last text (token ∷ tokens) = (token.line + line_ends (from_token tex
 -- the tokens of a whole text
 abbrev pub AreTokensOf : List ℕ → List Token → Type 0
 AreTokensOf text tokens = AreTokens (1 + line_ends text) text tokens
-
--- the first token is neither the end nor what is no token
-abbrev pub goes_on : List Token → Bool
-goes_on [] = false
-goes_on (token ∷ tokens) = is_spelled token.lexeme
 
 -- a text has one list of tokens
 abbrev pub TextHasOneTokenList : Type 0

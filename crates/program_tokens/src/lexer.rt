@@ -2,7 +2,7 @@
 ghost use Rattle.std.specs.Prelude.{◌≡◌, ◌+◌, ◌<◌, ◌≤◌, ◌^◌, ℕ, List, [], ◌∷◌, length, length as seq_length, take, drop, IfOk, IfSome, IfNone, slice_get, Some, option_copied};
 ghost use Rattle.hal_base.specs.Text.{IsText};
 ghost use Rattle.program_tokens.specs.declared.token.Lexeme.TheVariants.{Plain};
-ghost use Rattle.program_tokens.specs.Lexing as lexing;
+ghost use Rattle.program_tokens.specs.steps.Lexing as lexing;
 ghost use Rattle.program_tokens.specs.Tokens.{behind_comment, from_token, line_ends};
 
 use crate::token::{Lexeme, Token};

@@ -20,3 +20,17 @@ pub struct Token {
     pub lexeme: Lexeme,
     pub line: u64,
 }
+
+/// A name and the line in which it stands.
+#[derive(Drop)]
+pub struct Ident {
+    pub text: Text,
+    pub line: u64,
+}
+
+/// A number and the line in which it stands.
+#[derive(Drop)]
+pub struct Number {
+    pub value: i64,
+    pub line: u64,
+}

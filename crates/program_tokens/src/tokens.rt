@@ -1,6 +1,7 @@
 ghost use Rattle.std.specs.Prelude.{◌≡◌, ◌∷◌, true, IfOk, OnOk};
-ghost use Rattle.program_tokens.specs.Front as front;
-ghost use Rattle.program_tokens.specs.Tokens.{AreTokensOf, goes_on};
+ghost use Rattle.program_tokens.specs.steps.Front as front;
+ghost use Rattle.program_tokens.specs.Tokens.{AreTokensOf};
+ghost use Rattle.program_tokens.specs.steps.Front.{AreSpelled, goes_on};
 
 use crate::lexer::Lexer;
 use crate::token::{Lexeme, Token};
@@ -18,13 +19,13 @@ pub struct Tokens<'a> {
 impl<'a> Model for Tokens<'a> {
     ghost use Rattle.std.specs.Prelude.{List};
     ghost use Rattle.program_tokens.specs.declared.token.Token.{Token as OneToken};
-    ghost use Rattle.program_tokens.specs.Cursor.{HasRoom, tokens_from};
+    ghost use Rattle.program_tokens.specs.steps.Cursor.{IsKept, tokens_from};
 
     ghost Value = { List OneToken };
 
     ghost view = { tokens_from };
 
-    ghost invariant = { HasRoom };
+    ghost invariant = { IsKept };
 }
 
 impl<'a> Tokens<'a> {
@@ -43,6 +44,7 @@ impl<'a> Tokens<'a> {
     /// The next token.
     pub fn peek(&self) -> &Token
         ensures first { self.now ≡ result.now ∷ front.later self.now }
+        ensures spelled { AreSpelled self.now }
     {
         &self.next
     }

@@ -45,7 +45,7 @@ fn is_of_name(byte: u8) -> bool
 }
 
 /// Whether words go on with this byte.
-pub(crate) fn is_of_word(byte: u8) -> bool
+pub fn is_of_word(byte: u8) -> bool
     ensures { result ≡ is_word_byte byte }
 {
     is_of_name(byte) || (65 <= byte && byte <= 90)

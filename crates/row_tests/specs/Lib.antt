@@ -1,3 +1,4 @@
 pub mod ProgramLaws
 pub mod Programs
 pub mod Rows
+pub mod steps

@@ -17,18 +17,21 @@ use Rattle.plain_job.specs.Predefined.{same, made, keyed, add}
 use Rattle.type_checker.specs.declared.uses.Use.{Use}
 use Rattle.type_checker.specs.declared.uses.Use.TheVariants.{Same, Least, Hop, Default}
 use Rattle.type_checker.specs.declared.uses.UseStep.{UseStep}
-use Rattle.function_eval.specs.Meanings.{meaning_of}
+use Rattle.function_meaning.specs.Meanings.{meaning_of}
 
 -- a record of two numbers
 abbrev pub pair : ℕ → ℕ → Record
 pair k v = made (Int (pos k)) (Int (pos v) ∷ [])
 
+-- the schema of such records
 abbrev pub pairs : Schema
 pairs = record { key = kind.Int; fields = kind.Int ∷ [] }
 
+-- a source whose stream has such records, without caches
 abbrev pub source : Origin → Source
 source from = record { from = from; stream = pairs; reducer_input = false; mapper_input = false }
 
+-- a step that leaves such records
 abbrev pub step : List Source → Step
 step sources = record { sources = sources; out = pairs }
 
@@ -58,6 +61,7 @@ shape parts rounds exact threshold tables steps = record {
   reducer_output = false;
 }
 
+-- no group is far from another
 abbrev pub none : Value → List (List Value) → List (List Value) → ℕ
 none key old new = 0
 
@@ -67,44 +71,55 @@ predefined parts reduces = meaning_of [] (record { steps = map (λ (reduce : Use
 
 -- ---- distances by hops
 
+-- the program that finds how far each node is from the start
 abbrev pub hops : Meaning
 hops = predefined 2 (Hop ∷ Least ∷ [])
 
+-- its shape, of at most so many rounds
 abbrev pub hops_shape : ℕ → Shape
 hops_shape rounds = shape 2 rounds true 1 2 (step (source State ∷ source (Table 1 None) ∷ []) ∷ step (source Prev ∷ source (Table 0 None) ∷ []) ∷ [])
 
+-- its links: from node 1 to 2, and from 2 to 3
 abbrev pub links : List Record
 links = pair 1 2 ∷ pair 2 3 ∷ []
 
 -- ---- how many links each key has
 
+-- ten keys further on, how many links a key has
 abbrev pub count : Value → List (List (List Value)) → List Record
 count (Int k) (s ∷ t ∷ []) = made (Int (add k (pos 10))) (Int (pos (length t)) ∷ []) ∷ []
 count key groups = []
 
+-- the program that counts the links of each key
 abbrev pub counts : Meaning
 counts = program (λ j. count) 2 none
 
+-- its shape, of two rounds
 abbrev pub counts_shape : Shape
 counts_shape = shape 2 2 true 1 2 (step (source State ∷ source (Table 1 None) ∷ []) ∷ [])
 
 -- ---- one job, and a table that is read in round 2 only
 
+-- the program that keeps the least of each key
 abbrev pub leasts : Meaning
 leasts = predefined 1 (Least ∷ [])
 
+-- a shape of one round for it
 abbrev pub one_job_shape : Shape
 one_job_shape = shape 1 1 true 1 1 (step (source State ∷ []) ∷ [])
 
+-- a shape for it with a table that is read in round 2 only
 abbrev pub late_shape : Shape
 late_shape = shape 1 3 true 1 2 (step (source State ∷ source (Table 1 (Some 2)) ∷ []) ∷ [])
 
 -- ---- ranks in parts per million
 
+-- the number of a field list
 abbrev pub number : List Value → ℤ
 number (Int x ∷ fields) = x
 number fields = pos 0
 
+-- the sum of the numbers of a group
 abbrev pub total : List (List Value) → ℤ
 total [] = pos 0
 total (fields ∷ group) = number fields +ℤ total group
@@ -113,26 +128,33 @@ total (fields ∷ group) = number fields +ℤ total group
 abbrev pub part_of : ℤ → List (List Value) → List Value
 part_of x targets = Int (int_div (x *ℤ pos 85) (pos (length targets) *ℤ pos 100)) ∷ []
 
+-- what each target of a key gets of one rank of it
 abbrev pub shared : List (List Value) → List Value → List Record
 shared targets rank = flat_map (λ u. keyed u (part_of (number rank) targets)) targets
 
+-- no rank for the key itself, and the shares of its targets
 abbrev pub share : Value → List (List (List Value)) → List Record
 share key (ranks ∷ targets ∷ []) = made key (Int (pos 0) ∷ []) ∷ flat_map (shared targets) ranks
 share key groups = []
 
+-- what a key has beforehand, and all that it gets
 abbrev pub summed : Value → List (List (List Value)) → List Record
 summed key (group ∷ []) = made key (Int (pos 150000 +ℤ total group) ∷ []) ∷ []
 summed key groups = []
 
+-- a number without its sign
 abbrev pub size : ℤ → ℕ
 size (pos n) = n
 size (negsuc n) = n + 1
 
+-- how far the rank of a key is from that of the round before
 abbrev pub moved : Value → List (List Value) → List (List Value) → ℕ
 moved key old new = size (total new +ℤ (negsuc 0 *ℤ total old))
 
+-- the program of ranks: its first step shares them out, and its second sums them up
 abbrev pub ranks : Meaning
 ranks = program (λ j. if j == 1 then share else summed) 1 moved
 
+-- its shape, which ends below a distance of 1400000
 abbrev pub ranks_shape : Shape
 ranks_shape = shape 1 50 false 1400000 2 (step (source State ∷ source (Table 1 None) ∷ []) ∷ step (source Prev ∷ []) ∷ [])

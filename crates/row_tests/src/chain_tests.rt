@@ -1,6 +1,7 @@
 // The plain chain, run over the worked programs, to each of their rounds.
-ghost use Rattle.std.specs.Prelude.{◌≡◌, IfOk};
-ghost use Rattle.plain_job.specs.Plain.{FewSources, FewSteps};
+ghost use Rattle.std.specs.Prelude.{◌≡◌, ◌≤◌, true, IfOk, IfSome, length};
+ghost use Rattle.hal_base.specs.declared.shape.Origin.TheVariants as from;
+ghost use Rattle.row_tests.specs.steps.Shapes.{AreOverTwo, BeginsWith, IsOfTwo, IsOverTwo};
 
 use crate::functions::{COUNT, Program, RANKS, evaluator_of, predefined};
 use crate::samples::{pair, schema_of};
@@ -23,7 +24,9 @@ const START: Origin = Origin::Table {
     only: None,
 };
 
-fn source_of(alloc: Global, from: Origin) -> Result<Source, Memory> {
+fn source_of(alloc: Global, from: Origin) -> Result<Source, Memory>
+    ensures { IfOk result (λ source. source.from ≡ from) }
+{
     Ok(Source {
         from,
         stream: schema_of(alloc, Kind::Int, Kind::Int)?,
@@ -34,7 +37,8 @@ fn source_of(alloc: Global, from: Origin) -> Result<Source, Memory> {
 
 /// A step over one source, and a table where one is given.
 fn step_of(alloc: Global, first: Origin, table: Option<Origin>) -> Result<Step, Memory>
-    ensures { IfOk result (λ step. FewSources step.sources) }
+    requires { IfSome table IsOfTwo }
+    ensures { IfOk result (BeginsWith first) }
 {
     let mut sources = Sources::new(alloc);
     sources.push(source_of(alloc, first)?)?;
@@ -48,8 +52,8 @@ fn step_of(alloc: Global, first: Origin, table: Option<Origin>) -> Result<Step, 
 }
 
 fn one_step(alloc: Global, only: Step) -> Result<Steps, Memory>
-    requires { FewSources only.sources }
-    ensures { IfOk result FewSteps }
+    requires { BeginsWith from.State only }
+    ensures { IfOk result AreOverTwo }
 {
     let mut steps = Steps::new(alloc);
     steps.push(only)?;
@@ -57,9 +61,9 @@ fn one_step(alloc: Global, only: Step) -> Result<Steps, Memory>
 }
 
 fn two_steps(alloc: Global, first: Step, second: Step) -> Result<Steps, Memory>
-    requires first { FewSources first.sources }
-    requires second { FewSources second.sources }
-    ensures { IfOk result FewSteps }
+    requires first { BeginsWith from.State first }
+    requires second { BeginsWith from.Prev second }
+    ensures { IfOk result AreOverTwo }
 {
     let mut steps = Steps::new(alloc);
     steps.push(first)?;
@@ -83,20 +87,30 @@ fn exactly(rounds: u32) -> Stop {
     }
 }
 
-fn shape_of(alloc: Global, parts: u32, stop: Stop, steps: Steps) -> Shape
-    ensures { result.steps ≡ steps }
+fn two_tables(alloc: Global) -> Result<Schemas, Memory>
+    ensures { IfOk result (λ tables. length tables ≡ 2) }
 {
-    Shape {
+    let mut tables = Schemas::new(alloc);
+    tables.push(schema_of(alloc, Kind::Int, Kind::Int)?)?;
+    tables.push(schema_of(alloc, Kind::Int, Kind::Int)?)?;
+    Ok(tables)
+}
+
+fn shape_of(alloc: Global, parts: u32, stop: Stop, steps: Steps) -> Result<Shape, Memory>
+    requires { AreOverTwo steps }
+    ensures { IfOk result IsOverTwo }
+{
+    Ok(Shape {
         parts,
         rounds: stop.rounds,
         exact: stop.exact,
         threshold: stop.threshold,
         start: 0,
-        tables: Schemas::new(alloc),
+        tables: two_tables(alloc)?,
         blocks: Counts::new(alloc),
         steps,
         reducer_output: false,
-    }
+    })
 }
 
 /// One step over the state, and a table where one is given.
@@ -106,10 +120,11 @@ fn one_step_shape(
     stop: Stop,
     table: Option<Origin>,
 ) -> Result<Shape, Memory>
-    ensures { IfOk result (λ shape. FewSteps shape.steps) }
+    requires { IfSome table IsOfTwo }
+    ensures { IfOk result IsOverTwo }
 {
     let only = step_of(alloc, Origin::State, table)?;
-    Ok(shape_of(alloc, parts, stop, one_step(alloc, only)?))
+    shape_of(alloc, parts, stop, one_step(alloc, only)?)
 }
 
 /// A step over the state and the links, and a step over its output and, where one is given, a table.
@@ -119,11 +134,12 @@ fn two_step_shape(
     stop: Stop,
     table: Option<Origin>,
 ) -> Result<Shape, Memory>
-    ensures { IfOk result (λ shape. FewSteps shape.steps) }
+    requires { IfSome table IsOfTwo }
+    ensures { IfOk result IsOverTwo }
 {
     let first = step_of(alloc, Origin::State, Some(LINKS))?;
     let second = step_of(alloc, Origin::Prev, table)?;
-    Ok(shape_of(alloc, parts, stop, two_steps(alloc, first, second)?))
+    shape_of(alloc, parts, stop, two_steps(alloc, first, second)?)
 }
 
 fn tables_of(alloc: Global, tables: &[&[(i64, i64)]]) -> Result<Tables, Memory> {
@@ -138,6 +154,14 @@ fn tables_of(alloc: Global, tables: &[&[(i64, i64)]]) -> Result<Tables, Memory> 
     Ok(all)
 }
 
+/// Whether there may be so many parts and rounds.
+fn are_limits(parts: u32, rounds: u32) -> bool
+    ensures parts { result ≡ true → (1 ≤ parts) × (parts ≤ 64) }
+    ensures rounds { result ≡ true → (1 ≤ rounds) × (rounds ≤ 10000) }
+{
+    1 <= parts && parts <= 64 && 1 <= rounds && rounds <= 10000
+}
+
 /// Whether the chain ends in this round, in this way, with these parts.
 fn ends_so<F: Functions>(
     alloc: Global,
@@ -146,9 +170,9 @@ fn ends_so<F: Functions>(
     tables: &Tables,
     wanted: (u32, End, &[&str]),
 ) -> Result<bool, Memory>
-    requires { FewSteps shape.now.steps }
+    requires { IsOverTwo shape.now }
 {
-    if shape.rounds == 0 {
+    if !are_limits(shape.parts, shape.rounds) {
         return Ok(false);
     }
     let (rounds, end, texts) = wanted;
@@ -165,7 +189,7 @@ fn program_ends_so(
     tables: &Tables,
     wanted: (u32, End, &[&str]),
 ) -> Result<bool, Memory>
-    requires { FewSteps shape.now.steps }
+    requires { IsOverTwo shape.now }
 {
     match evaluator_of(alloc, program, shape.parts)? {
         Some(functions) => ends_so(alloc, &functions, shape, tables, wanted),

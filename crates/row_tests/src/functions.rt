@@ -2,8 +2,9 @@
 ghost use Rattle.std.specs.Prelude.{◌≤◌};
 
 use function_eval::Evaluator;
-use function_language::{SyntaxFault, Tree, read_functions};
+use function_language::{Tree, read_functions};
 use hal_base::Memory;
+use program_tokens::SyntaxFault;
 use std::alloc::Global;
 use type_checker::{TypeFault, Typed, Use, UseMaps, UseStep, UseSteps, Uses, check};
 

@@ -11,8 +11,7 @@ mod failing;
 mod functions;
 #[cfg(test)]
 mod library_tests;
-#[cfg(test)]
-mod link_counts;
+pub mod link_counts;
 pub mod rows;
 #[cfg(test)]
 mod samples;

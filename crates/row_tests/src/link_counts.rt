@@ -1,8 +1,8 @@
-// The functions of the worked program that counts the links of each key.
 use hal_base::{Fields, Functions, Group, Groups, Memory, Record, Records, Value, default_part};
 use predefined_functions::same;
 use std::alloc::Global;
 
+/// The functions of the worked program that counts the links of each key, over two parts.
 #[derive(Drop)]
 pub struct LinkCounts {}
 

@@ -2,13 +2,13 @@
 use Rattle.std.proofs.Common.{◌≡◌, ◌∙◌, ap, cond, refl, subst, sym, Bool, true, false, List, [], ◌∷◌, ◌++◌, Ok, Err, append_assoc, append-nil, drop, length, map, take}
 use Rattle.hal_base.specs.declared.value.Kind.{Kind}
 use Rattle.hal_base.specs.declared.value.Kind.TheVariants as kind
-use Rattle.function_language.specs.declared.tree.Ident.{Ident}
+use Rattle.program_tokens.specs.declared.token.Ident.{Ident}
 use Rattle.function_language.specs.declared.tree.Statement.{Statement, Let, Set, If', For', Emit, Give}
 use Rattle.type_checker.specs.declared.fault.TypeFault.{TypeFault}
 use Rattle.type_checker.specs.declared.fault.TypeFault.TheVariants.{DoubleName}
 use Rattle.type_checker.specs.declared.scope.Known.{Known}
 use Rattle.type_checker.specs.declared.scope.Setting.{Setting}
-use Rattle.type_checker.specs.Found.{Found, ◌>>=◌, ◌>>◌}
+use Rattle.type_checker.specs.Checked.{Checked, ◌>>=◌, ◌>>◌}
 use Rattle.type_checker.specs.Kinds.{is_of_kind, judged, kind_in}
 use Rattle.type_checker.specs.Scopes.{declared, is_taken, kind_to_set, known, stream_named, value_of_kind}
 use Rattle.type_checker.specs.Statements.{after, all_after, else_after, emits, first_kind, gives, has_fields, kinds_of, loop_names, loop_scope, row_after}
@@ -18,7 +18,7 @@ abbrev Grown : List Known → List Known → Type 0
 Grown old new = (more : List Known) × (new ≡ old ++ more)
 
 -- what is found, if there is no fault, is this scope with values added
-abbrev Grows : List Known → Found (List Known) → Type 0
+abbrev Grows : List Known → Checked (List Known) → Type 0
 Grows scope (Ok new) = Grown scope new
 Grows scope (Err fault) = Unit {0}
 
@@ -29,22 +29,22 @@ twice : (old new newer : List Known) → Grown old new → Grown new newer → G
 twice old new newer a b = (a.0 ++ b.0, b.1 ∙ ap (λ l. l ++ b.0) a.1 ∙ append_assoc old a.0 b.0)
 
 -- behind a scope that grew
-grows_from : (old new : List Known) (found : Found (List Known)) → Grown old new → Grows new found → Grows old found
+grows_from : (old new : List Known) (found : Checked (List Known)) → Grown old new → Grows new found → Grows old found
 grows_from old new (Ok newer) a b = twice old new newer a b
 grows_from old new (Err fault) a b = tt
 
 -- behind whatever is found first
-behind : {A : Type 0} (scope : List Known) (found : Found A) (on : A → Found (List Known)) → ((a : A) → Grows scope (on a)) → Grows scope (found >>= on)
+behind : {A : Type 0} (scope : List Known) (found : Checked A) (on : A → Checked (List Known)) → ((a : A) → Grows scope (on a)) → Grows scope (found >>= on)
 behind scope (Ok a) on g = g a
 behind scope (Err fault) on g = tt
 
 -- the same, where it is not used
-beside : {A : Type 0} (scope : List Known) (found : Found A) (more : Found (List Known)) → Grows scope more → Grows scope (found >> more)
+beside : {A : Type 0} (scope : List Known) (found : Checked A) (more : Checked (List Known)) → Grows scope more → Grows scope (found >> more)
 beside scope (Ok a) more g = g
 beside scope (Err fault) more g = tt
 
 -- behind a scope that grows
-onward : (scope : List Known) (found : Found (List Known)) (on : List Known → Found (List Known)) → Grows scope found → ((new : List Known) → Grows new (on new)) → Grows scope (found >>= on)
+onward : (scope : List Known) (found : Checked (List Known)) (on : List Known → Checked (List Known)) → Grows scope found → ((new : List Known) → Grows new (on new)) → Grows scope (found >>= on)
 onward scope (Ok new) on a g = grows_from scope new (on new) a (g new)
 onward scope (Err fault) on a g = tt
 

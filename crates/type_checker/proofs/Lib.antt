@@ -1,4 +1,6 @@
+pub mod Binding
 pub mod Faults
+pub mod FlagsLaws
 pub mod Growing
 pub mod NameLaws
 pub mod Rows

@@ -3,7 +3,8 @@ use Rattle.std.proofs.Common.{◌≡◌, ℕ, suc, Bool, true, false, cond, List
 use Rattle.std.specs.Str.{bytes_eq}
 use Rattle.name_index.specs.Names.{place_behind, place_of}
 use Rattle.type_checker.specs.declared.scope.Known.{Known}
-use Rattle.type_checker.specs.Scopes.{known, names_in}
+use Rattle.type_checker.specs.Scopes.{known}
+use Rattle.type_checker.specs.steps.Checks.{names_in}
 
 -- behind one more, a place is one further
 one_further : (n : ℕ) (name : List ℕ) (names : List (List ℕ)) → place_behind (suc n) name names ≡ option_map suc (place_behind n name names)

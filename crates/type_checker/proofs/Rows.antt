@@ -5,17 +5,17 @@ use Rattle.hal_base.specs.declared.value.Kind.TheVariants as kind
 use Rattle.function_language.specs.declared.tree.Expr.{Expr, Row_of-Expr, end_of-Expr, items-the_row-Expr, items_hidden-the_row-Expr-0, more_of-Expr}
 use Rattle.function_language.specs.declared.tree.Expr.TheBlock.{hidden-the_row-Expr-0}
 use Rattle.function_language.specs.declared.tree.Expr.TheVariants as an_expr
-use Rattle.function_language.specs.declared.tree.Ident.{Ident}
+use Rattle.program_tokens.specs.declared.token.Ident.{Ident}
 use Rattle.function_language.specs.declared.tree.Statement.{Row_of-Statement, Statement, end_of-Statement, items-the_row-Statement, items_hidden-the_row-Statement-0, more_of-Statement}
 use Rattle.function_language.specs.declared.tree.Statement.TheBlock.{hidden-the_row-Statement-0}
 use Rattle.function_language.specs.declared.tree.Statement.TheVariants as a_statement
 use Rattle.operations.specs.declared.operation.Wanted.{Wanted}
 use Rattle.type_checker.specs.declared.scope.Known.{Known}
 use Rattle.type_checker.specs.declared.scope.Setting.{Setting}
-use Rattle.type_checker.specs.Found.{Found, ◌>>=◌, ◌>>◌}
+use Rattle.type_checker.specs.Checked.{Checked, ◌>>=◌, ◌>>◌}
 use Rattle.type_checker.specs.Kinds.{args_judged, args_kind, call_kind, is_of_kind, judged, kind_in}
 use Rattle.type_checker.specs.Statements.{after, all_after, each_emitted, loop_scope, row_after}
-use Rattle.type_checker.specs.Steps.{for_after, if_after, other_within, within}
+use Rattle.type_checker.specs.steps.Checks.{for_after, if_after, other_within, within}
 
 -- the arguments of a row are judged as those of its list
 args_of_row : (n : _) (setting : Setting) (scope : List Known) (row : Row_of-Expr n) → args_judged setting scope row ≡ map (judged setting scope) (items-the_row-Expr n row)
@@ -37,7 +37,7 @@ none_emitted setting [] = refl
 none_emitted setting (want ∷ wants) = refl
 
 -- what goes on the same finds the same
-same_on : {A B : Type 0} (found : Found A) (f g : A → Found B) → ((a : A) → f a ≡ g a) → (found >>= f) ≡ (found >>= g)
+same_on : {A B : Type 0} (found : Checked A) (f g : A → Checked B) → ((a : A) → f a ≡ g a) → (found >>= f) ≡ (found >>= g)
 same_on (Ok a) f g e = e a
 same_on (Err fault) f g e = refl
 
@@ -52,7 +52,7 @@ block_is : (setting : Setting) (scope : List Known) (block : List Statement) →
 block_is setting scope block = statements_of_row _ setting scope (hidden-the_row-Statement-0 block) ∙ ap (all_after setting scope) (items_hidden-the_row-Statement-0 block)
 
 -- what goes on behind a scope that was kept goes on behind what was found
-behind_kept : {A B : Type 0} (found : Found A) (scope : List Known) (more : Found B) → ((found >> Ok scope) >> more) ≡ (found >> more)
+behind_kept : {A B : Type 0} (found : Checked A) (scope : List Known) (more : Checked B) → ((found >> Ok scope) >> more) ≡ (found >> more)
 behind_kept (Ok a) scope more = refl
 behind_kept (Err fault) scope more = refl
 
@@ -71,7 +71,7 @@ if_tested setting scope statement test chosen other is tested =
     ap (after setting scope) is ∙ if_is setting scope test chosen other ∙ ap (λ found. found >> (within setting scope chosen >> other_within setting scope other)) (sym tested)
 
 -- what was kept is the scope
-kept_is : {A : Type 0} (found : Found A) (scope new : List Known) → (found >> Ok scope) ≡ Ok new → scope ≡ new
+kept_is : {A : Type 0} (found : Checked A) (scope new : List Known) → (found >> Ok scope) ≡ Ok new → scope ≡ new
 kept_is (Ok a) scope new e = cc
 kept_is (Err fault) scope new e = cc
 

@@ -2,7 +2,7 @@
 use Rattle.std.specs.Prelude.{ℕ, ◌==◌, Bool, true, false, cond, List, [], ◌∷◌, Option, None, Some, Ok, Err, length}
 use Rattle.hal_base.specs.declared.value.Kind.{Kind}
 use Rattle.hal_base.specs.declared.value.Kind.TheVariants as kind
-use Rattle.function_language.specs.declared.tree.Ident.{Ident}
+use Rattle.program_tokens.specs.declared.token.Ident.{Ident}
 use Rattle.function_language.specs.declared.tree.Expr.{Expr, Int, Text, Round, Name, Call', Row_of-Expr, end_of-Expr, more_of-Expr}
 use Rattle.operations.specs.declared.operation.Operation.{Operation}
 use Rattle.operations.specs.declared.operation.Wanted.{Wanted}
@@ -11,7 +11,7 @@ use Rattle.operations.specs.Operations.{given, operation_named, wanted}
 use Rattle.type_checker.specs.declared.fault.TypeFault.TheVariants.{UnknownName, WrongCount, WrongKind}
 use Rattle.type_checker.specs.declared.scope.Known.{Known}
 use Rattle.type_checker.specs.declared.scope.Setting.{Setting}
-use Rattle.type_checker.specs.Found.{Found, fine, ◌>>=◌, ◌>>◌}
+use Rattle.type_checker.specs.Checked.{Checked, fine, ◌>>=◌, ◌>>◌}
 use Rattle.type_checker.specs.Scopes.{kind_found, known}
 
 -- whether two kinds are one
@@ -31,20 +31,20 @@ line_of (Call' ident shape args) = ident.line
 
 -- an expression: the line of its first token, and its kind or its first fault
 abbrev pub Judged : Type 0
-Judged = ℕ × Found Kind
+Judged = ℕ × Checked Kind
 
 -- what stands in this line is of the kind that the place asks for
-abbrev pub of_kind : Setting → Kind → ℕ → Kind → Found (Unit {0})
+abbrev pub of_kind : Setting → Kind → ℕ → Kind → Checked (Unit {0})
 of_kind setting want line got = cond (same_kind want got) fine (Err (WrongKind setting.function line want got))
 
 -- an argument is what is wanted, the one before being of this kind
-abbrev pub suits : Setting → Wanted → Kind → ℕ → Kind → Found (Unit {0})
+abbrev pub suits : Setting → Wanted → Kind → ℕ → Kind → Checked (Unit {0})
 suits setting (Of want) before line got = of_kind setting want line got
 suits setting Any before line got = fine
 suits setting AsBefore before line got = of_kind setting before line got
 
 -- the kind of the last argument, where each is what is wanted of it; the first comes behind one of this kind
-abbrev pub args_kind : Setting → List Wanted → Kind → List Judged → Found Kind
+abbrev pub args_kind : Setting → List Wanted → Kind → List Judged → Checked Kind
 args_kind setting [] before args = Ok before
 args_kind setting (want ∷ wants) before [] = Ok before
 args_kind setting (want ∷ wants) before (arg ∷ args) = do
@@ -53,12 +53,12 @@ args_kind setting (want ∷ wants) before (arg ∷ args) = do
   args_kind setting wants got args
 
 -- an operation takes so many arguments
-abbrev pub takes : Setting → Ident → ℕ → Option Operation → Found Operation
+abbrev pub takes : Setting → Ident → ℕ → Option Operation → Checked Operation
 takes setting ident count None = Err (UnknownName setting.function ident.line)
 takes setting ident count (Some operation) = cond (length (wanted operation) == count) (Ok operation) (Err (WrongCount setting.function ident.line))
 
 -- a call by this name with these arguments
-abbrev pub call_kind : Setting → Ident → List Judged → Found Kind
+abbrev pub call_kind : Setting → Ident → List Judged → Checked Kind
 call_kind setting ident args = do
   operation ← takes setting ident (length args) (operation_named ident.text)
   last ← args_kind setting (wanted operation) kind.Int args
@@ -66,7 +66,7 @@ call_kind setting ident args = do
 
 -- an expression
 abbrev mutual
-  pub kind_in : Setting → List Known → Expr → Found Kind
+  pub kind_in : Setting → List Known → Expr → Checked Kind
   kind_in setting scope (Int line value) = Ok kind.Int
   kind_in setting scope (Text line value) = Ok kind.Text
   kind_in setting scope (Round line) = cond setting.has_round (Ok kind.Int) (Err (UnknownName setting.function line))
@@ -83,7 +83,7 @@ abbrev pub judged : Setting → List Known → Expr → Judged
 judged setting scope expr = (line_of expr, kind_in setting scope expr)
 
 -- an expression of the kind that its place asks for
-abbrev pub is_of_kind : Setting → List Known → Kind → Expr → Found (Unit {0})
+abbrev pub is_of_kind : Setting → List Known → Kind → Expr → Checked (Unit {0})
 is_of_kind setting scope want expr = do
   got ← kind_in setting scope expr
   of_kind setting want (line_of expr) got

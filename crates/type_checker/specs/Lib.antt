@@ -1,6 +1,8 @@
-pub mod Found
+pub mod Checked
+pub mod Flags
 pub mod Functions
 pub mod Kinds
 pub mod Scopes
 pub mod Statements
-pub mod Steps
+pub mod Uses
+pub mod steps

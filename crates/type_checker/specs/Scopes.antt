@@ -1,22 +1,18 @@
 -- What is in scope within a function.
-use Rattle.std.specs.Prelude.{ℕ, Bool, cond, ◌||◌, List, [], ◌∷◌, ◌++◌, Option, None, Some, is_some, map, Ok, Err}
+use Rattle.std.specs.Prelude.{ℕ, Bool, cond, ◌||◌, List, [], ◌∷◌, ◌++◌, Option, None, Some, is_some, Ok, Err}
 use Rattle.std.specs.Str.{bytes_eq}
 use Rattle.hal_base.specs.declared.value.Kind.{Kind}
-use Rattle.function_language.specs.declared.tree.Ident.{Ident}
+use Rattle.program_tokens.specs.declared.token.Ident.{Ident}
 use Rattle.type_checker.specs.declared.fault.TypeFault.TheVariants.{DoubleName, UnknownName}
 use Rattle.type_checker.specs.declared.scope.Known.{Known}
 use Rattle.type_checker.specs.declared.scope.KnownStream.{KnownStream}
 use Rattle.type_checker.specs.declared.scope.Setting.{Setting}
-use Rattle.type_checker.specs.Found.{Found}
+use Rattle.type_checker.specs.Checked.{Checked}
 
 -- the first parameter or variable of this name
 abbrev pub known : List ℕ → List Known → Option Known
 known name [] = None
 known name (value ∷ values) = cond (bytes_eq name value.name) (Some value) (known name values)
-
--- the names of parameters and variables
-abbrev pub names_in : List Known → List (List ℕ)
-names_in values = map (λ (value : Known). value.name) values
 
 -- the first stream of this name
 abbrev pub stream_named : List ℕ → List KnownStream → Option KnownStream
@@ -32,16 +28,16 @@ abbrev pub value_of_kind : Ident → Kind → Bool → Known
 value_of_kind ident kind variable = record { name = ident.text; kind = kind; variable = variable }
 
 -- the scope with one more value, whose name must be free
-abbrev pub declared : Setting → List Known → Ident → Kind → Bool → Found (List Known)
+abbrev pub declared : Setting → List Known → Ident → Kind → Bool → Checked (List Known)
 declared setting scope ident kind variable =
     cond (is_taken ident.text scope setting.streams) (Err (DoubleName setting.function ident.line)) (Ok (scope ++ value_of_kind ident kind variable ∷ []))
 
 -- the kind of a value in scope
-abbrev pub kind_found : Setting → Ident → Option Known → Found Kind
+abbrev pub kind_found : Setting → Ident → Option Known → Checked Kind
 kind_found setting ident None = Err (UnknownName setting.function ident.line)
 kind_found setting ident (Some value) = Ok value.kind
 
 -- the kind of a variable of a `let` in scope
-abbrev pub kind_to_set : Setting → Ident → Option Known → Found Kind
+abbrev pub kind_to_set : Setting → Ident → Option Known → Checked Kind
 kind_to_set setting ident None = Err (UnknownName setting.function ident.line)
 kind_to_set setting ident (Some value) = cond value.variable (Ok value.kind) (Err (UnknownName setting.function ident.line))

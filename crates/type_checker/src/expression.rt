@@ -9,9 +9,10 @@ ghost use Rattle.type_checker.specs.declared.fault.TypeFault.TheVariants as faul
 
 use crate::fault::TypeFault;
 use crate::scope::{Scope, Setting};
-use function_language::{Expr, Ident};
+use function_language::Expr;
 use hal_base::Kind;
 use operations::{Operation, Wanted, operation_named};
+use program_tokens::Ident;
 
 /// Whether two kinds are one.
 pub fn same_kind(a: Kind, b: Kind) -> bool

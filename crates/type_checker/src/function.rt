@@ -1,14 +1,15 @@
 ghost use Rattle.std.specs.Prelude.{◌≡◌, [], IfOk};
 ghost use Rattle.type_checker.specs.Functions as spec;
 ghost use Rattle.type_checker.specs.Functions.{body_right, functions_right, params_scope, streams_beside};
-ghost use Rattle.type_checker.specs.Steps.{Leaves, Passes, Tells, distance_right, function_right, map_right, partition_right, reduce_right, stream_beside};
+ghost use Rattle.type_checker.specs.steps.Checks.{Leaves, Passes, Tells, distance_right, function_right, map_right, partition_right, reduce_right, stream_beside};
 
 use crate::fault::TypeFault;
 use crate::scope::{KnownStream, Scope, Setting, declare, is_taken, value_of};
 use crate::statement::check_statements;
-use function_language::{Block, Function, Ident, Param, Row, Statement, Stream};
+use function_language::{Block, Function, Param, Row, Statement, Stream};
 use hal_base::{CopyIn, Items, Kind, Memory};
 use name_index::NameIndex;
+use program_tokens::Ident;
 use std::alloc::Global;
 
 /// Checks functions, one after another, to the first fault. docs/LANGUAGE.md, "Kinds and scopes".

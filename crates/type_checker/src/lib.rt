@@ -1,8 +1,10 @@
-//! The kinds of names and expressions in functions: right, or the first fault.
+//! The kinds of names and expressions in functions: right, or the first fault. Which functions a program uses where,
+//! and their flags.
 #![tactic(auto)]
 
 mod expression;
 mod fault;
+mod flags;
 mod function;
 mod scope;
 mod statement;

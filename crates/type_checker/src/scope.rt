@@ -2,12 +2,12 @@ ghost use Rattle.std.specs.Prelude.{◌≡◌, ◌∷◌, ◌++◌, [], length, 
 ghost use Rattle.std.specs.Option.{option_copied};
 ghost use Rattle.type_checker.specs.Scopes as scopes;
 ghost use Rattle.type_checker.specs.Scopes.{declared, value_of_kind};
-ghost use Rattle.type_checker.specs.Steps.{Leaves};
+ghost use Rattle.type_checker.specs.steps.Checks.{Leaves};
 
 use crate::fault::TypeFault;
-use function_language::Ident;
 use hal_base::{CopyIn, Items, Kind, Memory, Text};
 use name_index::NameIndex;
+use program_tokens::Ident;
 use std::alloc::Global;
 use std::marker::Model;
 
@@ -46,7 +46,7 @@ pub struct Scope {
 impl Model for Scope {
     ghost use Rattle.std.specs.Prelude.{◌≡◌, List};
     ghost use Rattle.type_checker.specs.declared.scope.Known.{Known as InScope};
-    ghost use Rattle.type_checker.specs.Scopes.{names_in};
+    ghost use Rattle.type_checker.specs.steps.Checks.{names_in};
 
     ghost Value = { List InScope };
 

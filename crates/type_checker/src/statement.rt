@@ -5,14 +5,15 @@ ghost use Rattle.type_checker.specs.Kinds.{judged};
 ghost use Rattle.type_checker.specs.Scopes as scopes;
 ghost use Rattle.type_checker.specs.Statements as spec;
 ghost use Rattle.type_checker.specs.Statements.{after, all_after, each_emitted, emits, loop_names, loop_scope};
-ghost use Rattle.type_checker.specs.Steps.{Leaves, for_after, within};
+ghost use Rattle.type_checker.specs.steps.Checks.{Leaves, for_after, within};
 ghost use Rattle.type_checker.specs.declared.fault.TypeFault.TheVariants as faults;
 
 use crate::expression::{expect_kind, kind_of, line_of, same_kind, unknown};
 use crate::fault::TypeFault;
 use crate::scope::{Known, KnownStream, Scope, Setting, declare};
-use function_language::{Block, Expr, Ident, Statement};
+use function_language::{Block, Expr, Statement};
 use hal_base::Kind;
+use program_tokens::Ident;
 use std::alloc::Global;
 
 /// Checks statements, one after another, and leaves in scope what they declare.

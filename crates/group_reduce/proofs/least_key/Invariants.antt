@@ -3,7 +3,7 @@ use Rattle.std.specs.List.{AllByRecursion}
 use Rattle.std.specs.Option.{option_copied}
 use Rattle.hal_base.specs.Order.{record_cmp}
 use Rattle.hal_base.specs.Sorted.{Ascending}
-use Rattle.group_reduce.specs.Front.{least_key_of}
+use Rattle.group_reduce.specs.steps.Front.{least_key_of}
 use Rattle.group_reduce.proofs.least_key.Given as goal
 
 abbrev pub invariant-heads : goal.invariant-heads

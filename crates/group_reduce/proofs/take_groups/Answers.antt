@@ -1,6 +1,6 @@
 use Rattle.std.proofs.Common.{map}
 use Rattle.plain_job.specs.Job.{fields_of}
-use Rattle.group_reduce.specs.Front.{front, rest}
+use Rattle.group_reduce.specs.steps.Front.{front, rest}
 use Rattle.hal_base.proofs.Passes.{pass_over}
 use Rattle.group_reduce.proofs.take_groups.Goals as goal
 

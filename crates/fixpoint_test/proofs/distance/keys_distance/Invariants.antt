@@ -1,6 +1,6 @@
 use Rattle.std.proofs.Common.{◌≡◌, ◌≤◌, ◌+◌, min, sum, map, length}
 use Rattle.group_reduce.specs.Groups.{keyed_groups}
-use Rattle.fixpoint_test.specs.Walks.{far_of}
+use Rattle.fixpoint_test.specs.steps.InOrder.{far_of}
 use Rattle.fixpoint_test.proofs.distance.keys_distance.Given as goal
 
 -- the total and the sum of what is left, up to the greatest number, are the whole

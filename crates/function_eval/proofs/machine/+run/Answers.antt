@@ -1,5 +1,5 @@
 use Rattle.std.proofs.Common.{Some, ap, false, true, ◌∙◌}
-use Rattle.function_eval.specs.Machine.{groups_of}
+use Rattle.function_eval.specs.steps.Machine.{groups_of}
 use Rattle.function_eval.proofs.MachineStatements.{for_ran, if_ran}
 use Rattle.function_eval.proofs.machine.+run.Goals as goal
 

@@ -1,6 +1,6 @@
 use Rattle.std.proofs.Common.{◌≡◌, ◌++◌, drop, length, map, option_map}
-use Rattle.function_eval.specs.Optional.{all_of}
-use Rattle.function_eval.specs.Slots.{slot_value}
+use Rattle.function_meaning.specs.Optional.{all_of}
+use Rattle.function_eval.specs.steps.Slots.{slot_value}
 use Rattle.function_eval.proofs.machine.fields.Given as goal
 
 abbrev pub invariant-args-2 : goal.invariant-args-2

@@ -1,9 +1,9 @@
-use Rattle.std.proofs.Common.{None, Ok, sym, ap, ◌∙◌, arith, subst}
-use Rattle.function_language.specs.Parsers.{separated}
-use Rattle.function_language.specs.Reading as reading
-use Rattle.function_language.specs.Reading.{or_read}
+use Rattle.std.proofs.Common.{None, Ok, sym, ap, ◌∙◌, arith, rules, subst}
+use Rattle.program_tokens.specs.steps.Parsers.{closed, separated}
+use Rattle.function_language.specs.steps.Reading as reading
+use Rattle.function_language.specs.steps.Reading.{or_read}
 use Rattle.function_language.proofs.Shorter.{expr_shorter}
-use Rattle.function_language.proofs.Turns.{Separating, eat_reads, eat_shrinks, reads_on, reads_refused, separating_ends, separating_more, separating_refused}
+use Rattle.program_tokens.proofs.Turns.{Separating, eat_reads, eat_shrinks, reads_on, reads_refused, separating_ends, separating_more, separating_refused}
 use Rattle.function_language.proofs.expression.+expression.Goals as goal
 
 pub expr-returns : goal.expr-returns
@@ -40,3 +40,23 @@ some_arguments-args-2-preserved t c =
     (c.in_ok-eat.ensures ∙ ap (λ found. Ok (found, c.eat.new.tokens)) c.if-not-branch.false)
     in
     subst (λ args. Separating (reading.expr c.args.depth) (separated (reading.expr c.args.depth) c.args.tokens.now) args c.eat.new.tokens) (sym c.in_ok-push.ensures.ok) more
+
+pub arguments-returns-in_err-eat : goal.arguments-returns-in_err-eat
+unfolding closed
+arguments-returns-in_err-eat t c = search rules
+
+pub arguments-returns-then-branch : goal.arguments-returns-then-branch
+unfolding closed
+arguments-returns-then-branch t c = search rules
+
+pub arguments-returns-in_err-args : goal.arguments-returns-in_err-args
+unfolding closed
+arguments-returns-in_err-args t c = search rules
+
+pub arguments-returns-in_err-expect : goal.arguments-returns-in_err-expect
+unfolding closed
+arguments-returns-in_err-expect t c = search rules
+
+pub arguments-returns : goal.arguments-returns
+unfolding closed
+arguments-returns t c = search rules

@@ -1,7 +1,7 @@
 use Rattle.std.proofs.Common.{◌+◌, ◌*◌, length}
-use Rattle.function_language.specs.Parsers.{separated}
-use Rattle.function_language.proofs.Turns.{Separating}
-use Rattle.function_language.specs.Reading as reading
+use Rattle.program_tokens.specs.steps.Parsers.{separated}
+use Rattle.program_tokens.proofs.Turns.{Separating}
+use Rattle.function_language.specs.steps.Reading as reading
 use Rattle.function_language.proofs.expression.+expression.Given as goal
 
 abbrev pub decreases-call : goal.decreases-call

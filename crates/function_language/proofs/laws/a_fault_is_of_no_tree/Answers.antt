@@ -1,5 +1,5 @@
 use Rattle.program_tokens.proofs.Lists.{one_list}
-use Rattle.function_language.proofs.Whole.{fault_is_one}
+use Rattle.program_tokens.proofs.Whole.{fault_is_one}
 use Rattle.function_language.proofs.laws.a_fault_is_of_no_tree.Goals as goal
 
 pub returns : goal.returns

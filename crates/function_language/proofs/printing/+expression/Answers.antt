@@ -1,7 +1,7 @@
-use Rattle.std.proofs.Common.{◌∙◌, rules}
+use Rattle.std.proofs.Common.{◌<◌, ◌∙◌, rules}
 use Rattle.std.proofs.lemmas.Result.{on_ok_weaker}
 use Rattle.function_language.specs.Spelled.{expr_pieces}
-use Rattle.function_language.proofs.PrintingPlaces.{call_places, call_written, comma_places, comma_written, others_places, others_written}
+use Rattle.function_language.proofs.PrintingPlaces.{call_inside, call_places, call_written, comma_places, comma_written, others_places, others_written}
 use Rattle.function_language.proofs.printing.+expression.Goals as goal
 
 pub print_expr-print_call-requires : goal.print_expr-print_call-requires
@@ -33,3 +33,12 @@ print_more_arguments-args-2-preserved t c = record {
       ∙ c.args-2.invariant.written;
   places = (comma_places (expr_pieces c.args.depth) c.args.args.now c.args-2.arg-index c.arg-item.result c.args-2-test.true c.arg-item.is c.args-2.invariant.places).1;
 }
+
+pub print_arguments-print_expr-requires : goal.print_arguments-print_expr-requires
+print_arguments-print_expr-requires t c = (search rules, (others_places (expr_pieces c.args.depth) c.args.args.now c.first-item.result c.in-len1-up.len_at_least c.first-item.is c.requires).0)
+
+pub print_call-print_arguments-requires : goal.print_call-print_arguments-requires
+print_call-print_arguments-requires t c =
+    let inside = call_inside c.args.depth c.args.args.now c.requires in
+    let opens : 0 < c.args.depth = inside.0 in
+    (search rules, inside.1)

@@ -1,6 +1,7 @@
 use Rattle.std.proofs.Common.{◌≡◌, ◌+◌, ◌*◌, drop, map}
-use Rattle.function_language.specs.Printer.{ArePlaces, put_all}
-use Rattle.function_language.specs.Spelled.{each_behind_comma, expr_pieces}
+use Rattle.function_language.specs.steps.Printer.{ArePlaces, put_all}
+use Rattle.function_language.specs.Spelled.{expr_pieces}
+use Rattle.program_tokens.specs.Pieces.{each_behind_comma}
 use Rattle.function_language.proofs.printing.+expression.Given as goal
 
 abbrev pub decreases-print_call : goal.decreases-print_call

@@ -1,7 +1,7 @@
-use Rattle.std.proofs.Common.{◌∙◌, rules}
+use Rattle.std.proofs.Common.{◌<◌, ◌∙◌, rules}
 use Rattle.std.proofs.lemmas.Result.{on_ok_weaker}
 use Rattle.function_language.specs.Spelled.{statement_pieces}
-use Rattle.function_language.proofs.PrintingPlaces.{body_places, chosen_places, emit_places, for_places, for_written, give_places, if_places, if_written, item_places, item_written, other_places}
+use Rattle.function_language.proofs.PrintingPlaces.{block_inside, test_places, body_places, chosen_places, emit_places, for_places, for_written, give_places, if_places, if_written, item_places, item_written, other_places}
 use Rattle.function_language.proofs.printing.+statement.Goals as goal
 
 pub print_statement-print_if-requires : goal.print_statement-print_if-requires
@@ -43,3 +43,12 @@ print_statements-statements-preserved t c = record {
       ∙ c.statements.invariant.written;
   places = (item_places (statement_pieces c.args.depth) c.args.statements.now c.statements.statement-index c.statement-item.result c.statements-test.true c.statement-item.is c.statements.invariant.places).1;
 }
+
+pub print_block-print_statements-requires : goal.print_block-print_statements-requires
+print_block-print_statements-requires t c =
+    let inside = block_inside c.args.depth c.args.block.now c.requires in
+    let opens : 0 < c.args.depth = inside.0 in
+    (search rules, inside.1)
+
+pub print_if-print_expr-requires : goal.print_if-print_expr-requires
+print_if-print_expr-requires t c = test_places c.args.depth c.args.test.now c.args.yes.now c.args.no.now c.requires

@@ -1,6 +1,6 @@
 use Rattle.std.proofs.Common.{◌≡◌, ◌+◌, ◌*◌, drop}
 use Rattle.std.specs.List.{flat_map}
-use Rattle.function_language.specs.Printer.{ArePlaces, put_all}
+use Rattle.function_language.specs.steps.Printer.{ArePlaces, put_all}
 use Rattle.function_language.specs.Spelled.{statement_pieces}
 use Rattle.function_language.proofs.printing.+statement.Given as goal
 

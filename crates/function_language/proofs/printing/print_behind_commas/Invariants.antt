@@ -1,6 +1,6 @@
 use Rattle.std.proofs.Common.{◌≡◌, drop, map}
-use Rattle.function_language.specs.Printer.{put_all}
-use Rattle.function_language.specs.Spelled.{each_behind_comma}
+use Rattle.function_language.specs.steps.Printer.{put_all}
+use Rattle.program_tokens.specs.Pieces.{each_behind_comma}
 use Rattle.function_language.proofs.printing.print_behind_commas.Given as goal
 
 abbrev pub invariant-items : goal.invariant-items

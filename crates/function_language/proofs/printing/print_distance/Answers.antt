@@ -1,5 +1,5 @@
 use Rattle.std.proofs.Common.{◌++◌, ◌∷◌, codes}
-use Rattle.function_language.specs.Pieces.{plain}
+use Rattle.program_tokens.specs.Pieces.{plain}
 use Rattle.function_language.specs.Spelled.{param_pieces, stream_pieces}
 use Rattle.function_language.proofs.PrintingPlaces.{headed_body}
 use Rattle.function_language.proofs.printing.print_distance.Goals as goal

@@ -1,5 +1,5 @@
 use Rattle.std.proofs.Common.{◌∙◌, ap}
-use Rattle.function_language.specs.Printer.{Written}
+use Rattle.function_language.specs.steps.Printer.{Written}
 use Rattle.function_language.specs.Spelled.{function_pieces}
 use Rattle.function_language.proofs.PrintingPlaces.{item_places, line_written}
 use Rattle.function_language.proofs.printing.print_functions.Goals as goal

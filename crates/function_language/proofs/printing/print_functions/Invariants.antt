@@ -1,5 +1,5 @@
 use Rattle.std.proofs.Common.{◌≡◌, ◌++◌, drop, false}
-use Rattle.function_language.specs.Printer.{ArePlaces}
+use Rattle.function_language.specs.steps.Printer.{ArePlaces}
 use Rattle.function_language.specs.Printing.{tree_text}
 use Rattle.function_language.specs.Spelled.{functions_pieces}
 use Rattle.function_language.proofs.printing.print_functions.Given as goal

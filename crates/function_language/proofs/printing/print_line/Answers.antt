@@ -1,6 +1,6 @@
 use Rattle.std.proofs.Common.{◌++◌, ◌∷◌, [], ◌∙◌, ap, false}
 use Rattle.std.proofs.lemmas.Result.{on_ok_weaker}
-use Rattle.function_language.specs.Printer.{Written}
+use Rattle.function_language.specs.steps.Printer.{Written}
 use Rattle.function_language.specs.Spelled.{function_pieces}
 use Rattle.function_language.proofs.PrintingBlanks.{made, put_is_line}
 use Rattle.function_language.proofs.printing.print_line.Goals as goal

@@ -1,9 +1,9 @@
 use Rattle.std.proofs.Common.{true, false, Ok, ◌-◌, suc, sym, ap, ◌∙◌, ◌≡◌, arith, subst}
-use Rattle.function_language.specs.Parsers.{Reads}
-use Rattle.function_language.specs.Reading as reading
-use Rattle.function_language.specs.Reading.{statement_of}
+use Rattle.program_tokens.specs.steps.Parsers.{Reads}
+use Rattle.function_language.specs.steps.Reading as reading
+use Rattle.function_language.specs.steps.Reading.{statement_of}
 use Rattle.function_language.proofs.Shorter.{statement_shorter}
-use Rattle.function_language.proofs.Turns.{Blocking, blocking_ends, blocking_more, blocking_refused, eat_reads, eat_shrinks, reads_on, reads_refused}
+use Rattle.program_tokens.proofs.Turns.{Blocking, blocking_ends, blocking_more, blocking_refused, eat_reads, eat_shrinks, reads_on, reads_refused}
 use Rattle.function_language.proofs.statement.+statement.Goals as goal
 
 pub block-returns : goal.block-returns

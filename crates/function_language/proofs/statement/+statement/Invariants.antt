@@ -1,6 +1,6 @@
 use Rattle.std.proofs.Common.{◌+◌, ◌*◌, length}
-use Rattle.function_language.specs.Reading as reading
-use Rattle.function_language.proofs.Turns.{Blocking}
+use Rattle.function_language.specs.steps.Reading as reading
+use Rattle.program_tokens.proofs.Turns.{Blocking}
 use Rattle.function_language.proofs.statement.+statement.Given as goal
 
 abbrev pub decreases-block : goal.decreases-block

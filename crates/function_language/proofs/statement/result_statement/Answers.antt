@@ -1,8 +1,8 @@
 use Rattle.std.proofs.Common.{true, Ok, ap, ◌∙◌, subst}
-use Rattle.function_language.specs.Parsers.{Reads}
-use Rattle.function_language.specs.Reading as reading
-use Rattle.function_language.specs.Reading.{result_statement}
-use Rattle.function_language.proofs.Turns.{reads_on}
+use Rattle.program_tokens.specs.steps.Parsers.{Reads}
+use Rattle.function_language.specs.steps.Reading as reading
+use Rattle.function_language.specs.steps.Reading.{result_statement}
+use Rattle.program_tokens.proofs.Turns.{reads_on}
 use Rattle.function_language.proofs.statement.result_statement.Goals as goal
 
 pub returns-then-branch : goal.returns-then-branch

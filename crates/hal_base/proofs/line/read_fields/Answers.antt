@@ -2,7 +2,7 @@ use Rattle.std.proofs.Common.{sym, ap, ◌∙◌, ◌++◌, map, arith}
 use Rattle.std.specs.Option.{option_copied}
 use Rattle.std.proofs.lemmas.Result.{err_from_is_err_and}
 use Rattle.hal_base.specs.Lines.{value_text}
-use Rattle.hal_base.specs.LineReading.{pieces_left}
+use Rattle.hal_base.specs.steps.LineReading.{pieces_left}
 use Rattle.hal_base.proofs.ReadingLaws.{field_fault, kinds_split, read_so_far}
 use Rattle.hal_base.proofs.line.read_fields.Goals as goal
 

@@ -3,7 +3,7 @@ use Rattle.std.specs.List.{AllByRecursion}
 use Rattle.std.specs.Option.{option_copied}
 use Rattle.hal_base.specs.Values.{kind_of, IsValue}
 use Rattle.hal_base.specs.Lines.{value_text}
-use Rattle.hal_base.specs.LineReading.{pieces_left}
+use Rattle.hal_base.specs.steps.LineReading.{pieces_left}
 use Rattle.hal_base.proofs.line.read_fields.Given as goal
 
 abbrev pub invariant-fields : goal.invariant-fields

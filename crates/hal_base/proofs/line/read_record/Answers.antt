@@ -1,6 +1,6 @@
 use Rattle.std.proofs.Common.{List, subst}
 use Rattle.hal_base.specs.declared.value.Kind.{Kind}
-use Rattle.hal_base.specs.LineReading.{AreRead, pieces_left}
+use Rattle.hal_base.specs.steps.LineReading.{AreRead, pieces_left}
 use Rattle.std.specs.Option.{option_copied}
 use Rattle.hal_base.proofs.ReadingLaws.{record_read}
 use Rattle.hal_base.proofs.line.read_record.Goals as goal

@@ -4,7 +4,7 @@ use Rattle.std.specs.Fmt.{signed_decimal}
 use Rattle.std.proofs.lemmas.Fmt.{IsAscii-signed}
 use Rattle.std.proofs.lemmas.Str.{IsUtf8-from_ascii}
 use Rattle.std.proofs.lemmas.Int.{to_z-of_z}
-use Rattle.hal_base.specs.Numbers.{canonical_front}
+use Rattle.hal_base.specs.steps.Numbers.{canonical_front}
 use Rattle.hal_base.proofs.NumberText.{spelled, canonical, parsed}
 use Rattle.hal_base.proofs.number.read_number.Goals as goal
 

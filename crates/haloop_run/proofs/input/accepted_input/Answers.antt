@@ -1,40 +1,46 @@
-use Rattle.std.proofs.Common.{arith}
 use Rattle.std.proofs.lemmas.Result.{err_from_is_err_and}
-use Rattle.hal_outside.proofs.Counts.{rose_before}
-use Rattle.haloop_run.specs.Inputs as inputs
-use Rattle.haloop_run.specs.Texts.{asked_by}
-use Rattle.haloop_run.proofs.InputLaws.{refused_more, told_no_program, told_no_schedule, told_tables}
+use Rattle.haloop_run.specs.steps.Inputs.{Judged, NoProgram, NoSchedule, StopsAtTable}
+use Rattle.haloop_run.specs.steps.Words.{asked_by}
+use Rattle.haloop_run.proofs.Outcomes.{judged_complete, judged_program, judged_schedule, judged_table}
+use Rattle.haloop_run.proofs.Stopping.{reads_none, reads_then, stops_later, told_later}
 use Rattle.haloop_run.proofs.input.accepted_input.Goals as goal
 
-pub returns-in_err-program-clause-refused : goal.returns-in_err-program-clause-refused
-returns-in_err-program-clause-refused g c =
+pub returns-in_err-program-clause-stops : goal.returns-in_err-program-clause-stops
+returns-in_err-program-clause-stops g c =
+    let files = g.F.Files in
+    let asked = asked_by c.args.command.now in
     let r = err_from_is_err_and c.from_residual.result c.from_residual.ensures.1 in
     rw (r.1, r.2)
-    (refused_more _ _ _ _ _ _ (λ faults. faults) (λ absents. absents) (λ it n. told_no_program (asked_by c.args.command.now) (g.F.Files.told c.args.files.now) it n) c.in_err-program.field-0.0 c.in_err-program.ensures.refused)
+    (stops_later files c.args.files.now c.args.files.now c.program_file.new.files (NoProgram asked.program) (Judged asked) c.in_err-program.field-0.0
+    (reads_none files c.args.files.now) (λ told t it n. judged_program asked told it n) c.in_err-program.ensures.stops)
 
-pub returns-in_err-read_schedule-clause-refused : goal.returns-in_err-read_schedule-clause-refused
-returns-in_err-read_schedule-clause-refused g c =
+pub returns-in_err-read_schedule-clause-stops : goal.returns-in_err-read_schedule-clause-stops
+returns-in_err-read_schedule-clause-stops g c =
     let files = g.F.Files in
+    let asked = asked_by c.args.command.now in
     let r = err_from_is_err_and c.from_residual-in_err-read_schedule.result c.from_residual-in_err-read_schedule.ensures.1 in
     rw (r.1, r.2)
-    (refused_more _ _ _ _ _ _
-    (rose_before (files.faults c.args.files.now) (files.faults c.program_file.new.files) (files.faults c.read_schedule.new.files) c.in_ok-program.ensures.faults_stay)
-    (rose_before (files.absents c.args.files.now) (files.absents c.program_file.new.files) (files.absents c.read_schedule.new.files) c.in_ok-program.ensures.absents_stay)
-    (λ it n. told_no_schedule (asked_by c.args.command.now) (files.told c.args.files.now) (files.told c.program_file.new.files) c.in_ok-program.program it c.in_ok-program.ensures.kept c.in_ok-program.ensures.found n)
-    c.in_err-read_schedule.field-0.0 c.in_err-read_schedule.ensures.refused)
+    (stops_later files c.args.files.now c.program_file.new.files c.read_schedule.new.files (NoSchedule asked.schedule) (Judged asked) c.in_err-read_schedule.field-0.0
+    c.in_ok-program.ensures.reads (λ told t it n. judged_schedule asked told c.in_ok-program.program (c.in_ok-program.ensures.found told t) it n) c.in_err-read_schedule.ensures.stops)
 
-pub returns-in_err-tables-clause-refused : goal.returns-in_err-tables-clause-refused
-returns-in_err-tables-clause-refused g c =
+pub returns-in_err-tables-clause-stops : goal.returns-in_err-tables-clause-stops
+returns-in_err-tables-clause-stops g c =
     let files = g.F.Files in
+    let asked = asked_by c.args.command.now in
+    let program = c.in_ok-program.program in
     let r = err_from_is_err_and c.from_residual-in_err-tables.result c.from_residual-in_err-tables.ensures.1 in
     rw (r.1, r.2)
-    (refused_more _ _ _ _ _ _
-    (rose_before (files.faults c.args.files.now) (files.faults c.read_schedule.new.files) (files.faults c.read_tables.new.files) (omega (arith, c.in_ok-program.ensures.faults_stay, c.in_ok-read_schedule.ensures.faults_stay)))
-    (rose_before (files.absents c.args.files.now) (files.absents c.read_schedule.new.files) (files.absents c.read_tables.new.files) (omega (arith, c.in_ok-program.ensures.absents_stay, c.in_ok-read_schedule.ensures.absents_stay)))
-    (λ it j. told_tables (asked_by c.args.command.now) (files.told c.args.files.now) (files.told c.program_file.new.files) (files.told c.read_schedule.new.files) c.in_ok-program.program it c.in_ok-program.ensures.kept c.in_ok-read_schedule.ensures.kept c.in_ok-program.ensures.found c.in_ok-read_schedule.ensures.found j)
-    c.in_err-tables.field-0.0 c.in_err-tables.ensures.refused)
+    (stops_later files c.args.files.now c.read_schedule.new.files c.read_tables.new.files (StopsAtTable program) (Judged asked) c.in_err-tables.field-0.0
+    (reads_then files c.args.files.now c.program_file.new.files c.read_schedule.new.files c.in_ok-program.ensures.reads c.in_ok-read_schedule.ensures.reads)
+    (λ told t it s.
+    judged_table asked told program (c.in_ok-program.ensures.found told t)
+    (c.in_ok-read_schedule.ensures.found told (told_later files c.args.files.now c.program_file.new.files told c.in_ok-program.ensures.reads t)) it s)
+    c.in_err-tables.ensures.stops)
 
 pub returns-clause-found : goal.returns-clause-found
-returns-clause-found g c =
+returns-clause-found g c = λ told t.
     let files = g.F.Files in
-    told_tables (asked_by c.args.command.now) (files.told c.args.files.now) (files.told c.program_file.new.files) (files.told c.read_schedule.new.files) c.in_ok-program.program (inputs.accepted c.in_ok-program.program c.in_ok-tables.tables) c.in_ok-program.ensures.kept c.in_ok-read_schedule.ensures.kept c.in_ok-program.ensures.found c.in_ok-read_schedule.ensures.found c.in_ok-tables.ensures.found
+    let asked = asked_by c.args.command.now in
+    let t' = told_later files c.args.files.now c.program_file.new.files told c.in_ok-program.ensures.reads t in
+    let t'' = told_later files c.program_file.new.files c.read_schedule.new.files told c.in_ok-read_schedule.ensures.reads t' in
+    judged_complete asked told c.in_ok-program.program (c.in_ok-program.ensures.found told t) (c.in_ok-read_schedule.ensures.found told t') c.in_ok-tables.tables (c.in_ok-tables.ensures.found told t'')

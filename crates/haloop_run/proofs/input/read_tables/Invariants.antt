@@ -1,15 +1,11 @@
-use Rattle.std.specs.Prelude.{◌≡◌, ◌≤◌, IfSome, length}
-use Rattle.haloop_run.specs.Inputs.{listed}
-use Rattle.haloop_run.proofs.InputLaws.{GoesOn}
+use Rattle.hal_outside.specs.Told.{FileMap}
+use Rattle.hal_outside.specs.Calls.{OnlyReads, Tells}
+use Rattle.haloop_run.specs.Inputs.{tables_of}
+use Rattle.haloop_run.proofs.Tables.{FitSoFar, HaveFirst}
 use Rattle.haloop_run.proofs.input.read_tables.Given as goal
 
 abbrev pub invariant-tables : goal.invariant-tables
 invariant-tables g l =
-    let files = g.F.Files in
-    (files.faults l.initial.files ≤ files.faults l.files)
-    × (files.absents l.initial.files ≤ files.absents l.files)
-    × (files.told l.files ≡ files.told l.initial.files)
-    × IfSome (files.told l.initial.files) (GoesOn l.program (listed l.names l.paths l.schemas) l.tables)
-
-abbrev pub decreases-tables : goal.decreases-tables
-decreases-tables g l = length l.names
+    OnlyReads g.F.Files l.initial.files l.files
+    × FitSoFar l.schema-items l.at l.tables
+    × ((told : FileMap) → Tells g.F.Files l.initial.files told → HaveFirst (tables_of l.program) l.at l.tables told)

@@ -1,5 +1,5 @@
 use Rattle.std.proofs.Common.{rules, ◌≡◌, ap, ◌∙◌, codes, Some, None}
-use Rattle.haloop_run.specs.Texts.{texts}
+use Rattle.haloop_run.specs.Words.{texts}
 use Rattle.haloop_run.proofs.WordLaws.{three, four, asked_for}
 use Rattle.haloop_run.proofs.words.asked_command.Goals as goal
 

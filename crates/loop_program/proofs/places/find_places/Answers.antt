@@ -3,7 +3,7 @@ use Rattle.std.proofs.lemmas.Result.{err_from_is_err_and}
 use Rattle.function_language.specs.declared.tree.Function.{Function}
 use Rattle.program_sketch.specs.declared.sketch.TableSketch.{TableSketch}
 use Rattle.loop_program.specs.Places.{distance_named, table_named}
-use Rattle.loop_program.specs.Steps.{IsFound}
+use Rattle.loop_program.specs.steps.Tells.{IsFound}
 use Rattle.loop_program.proofs.Collecting.{stops, stops_behind}
 use Rattle.loop_program.proofs.places.find_places.Goals as goal
 

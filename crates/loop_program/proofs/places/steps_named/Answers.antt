@@ -3,7 +3,7 @@ use Rattle.std.proofs.lemmas.Result.{err_from_is_err_and}
 use Rattle.hal_base.specs.declared.shape.Origin.TheVariants.{State}
 use Rattle.program_sketch.specs.declared.sketch.StepSketch.{StepSketch}
 use Rattle.loop_program.specs.Places.{step_named, steps_named}
-use Rattle.loop_program.specs.Steps.{IsFound}
+use Rattle.loop_program.specs.steps.Tells.{IsFound}
 use Rattle.loop_program.proofs.Collecting.{starts, stops}
 use Rattle.loop_program.proofs.places.steps_named.Goals as goal
 

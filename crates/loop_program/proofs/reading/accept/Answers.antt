@@ -11,4 +11,4 @@ pub whole-requires : goal.whole-requires
 whole-requires c =
     let tables = subst (λ (tables : List TableSketch). each table_schema tables ≡ Ok c.in_ok-tables.tables) c.as_slice.ensures c.in_ok-tables.ensures in
     let steps = subst (λ (tables : List Schema). schemas c.args.sketch c.in_ok-found.found tables ≡ Ok c.in_ok-steps.steps) c.as_slice-2.ensures c.in_ok-steps.ensures in
-    record { kept = rules_kept c.args.sketch c.in_ok-found.found c.in_ok-tables.tables c.in_ok-steps.steps tt c.requires.typed c.requires.steps (sym c.in_ok-limits.ensures) c.in_ok-found.ensures tables steps }
+    record { kept = rules_kept c.args.sketch c.in_ok-found.found c.in_ok-tables.tables c.in_ok-steps.steps tt c.requires.typed c.requires.spelled c.requires.steps (sym c.in_ok-limits.ensures) c.in_ok-found.ensures tables steps }

@@ -1,7 +1,7 @@
 use Rattle.std.proofs.Common.{subst}
 use Rattle.loop_program.specs.declared.typing.TypedSketch.{TypedSketch}
 use Rattle.loop_program.specs.Programs.{accepted}
-use Rattle.loop_program.specs.Steps.{Tells}
+use Rattle.loop_program.specs.steps.Tells.{Tells}
 use Rattle.std.proofs.lemmas.Result.{err_from_is_err_and}
 use Rattle.program_sketch.proofs.SomeStep.{has_a_step}
 use Rattle.loop_program.proofs.Texts.{fault_refused, not_read_refused, what_is_read}

@@ -1,8 +1,8 @@
-use Rattle.std.proofs.Common.{◌≡◌, ◌++◌, List, [], ap, ◌∙◌, length, take, drop, arith}
-use Rattle.std.proofs.lemmas.List.{take_at}
+use Rattle.std.proofs.Common.{◌≡◌, ◌++◌, List, sym, ap, ◌∙◌, length, take, drop, arith}
+use Rattle.std.proofs.lemmas.List.{append-nil, take_at}
 use Rattle.hal_base.specs.declared.record.Record.{Record}
-use Rattle.plain_job.specs.Chain.{steps_out, table_at}
-use Rattle.memory_run.specs.Supplies.{Serve}
+use Rattle.plain_job.specs.Chain.{parts_from, table_at}
+use Rattle.memory_run.specs.steps.Inputs.{Serve}
 use Rattle.memory_run.proofs.chain.begin.Goals as goal
 
 pub returns-clause-serve : goal.returns-clause-serve
@@ -24,4 +24,5 @@ returns-clause-parts g c =
     let serves : Serve m shape c.args.tables c.plan_of.new.tables c.deref.result.now = rw (c.deref.ensures.value, ← begun) c.in_ok-plan.ensures.serve in
     let start = c.in_ok-plan.ensures.start ∙ ap (λ tables. table_at tables shape.start) begun in
     let read : List Record = table_at c.plan_of.new.tables shape.start in
-    ◌∙◌ {b = steps_out m shape c.args.tables 1 1 read [] shape.steps} (c.in_ok-parts.ensures.out c.args.tables serves) (ap (λ state. steps_out m shape c.args.tables 1 1 state [] shape.steps) start)
+    let begins : List Record → List (List Record) = λ state. parts_from m shape c.args.tables 1 state (length shape.steps) in
+    ◌∙◌ {b = begins read} (c.in_ok-parts.ensures.out c.args.tables serves) (ap begins (start ∙ sym (append-nil (table_at c.args.tables shape.start))))

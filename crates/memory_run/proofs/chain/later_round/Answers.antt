@@ -1,6 +1,6 @@
-use Rattle.std.proofs.Common.{[], ap, ◌∙◌}
+use Rattle.std.proofs.Common.{ap, ◌∙◌, length}
 use Rattle.std.proofs.lemmas.Result.{IfOk-weaker}
-use Rattle.plain_job.specs.Chain.{steps_out, together}
+use Rattle.plain_job.specs.Chain.{parts_from, together}
 use Rattle.memory_run.proofs.Serving.{round_is}
 use Rattle.memory_run.proofs.chain.later_round.Goals as goal
 
@@ -9,4 +9,4 @@ returns g c =
     let m = g.F.Functions.meaning c.args.functions.now in
     let shape = c.args.shape.now in
     let state = together c.as_slice.result.now in
-    IfOk-weaker c.round_out.result _ _ (λ out e real h. e ∙ round_is m shape real c.args.tables.now c.args.round state c.args.plan.now h ∙ ap (λ parts. steps_out m shape real c.args.round 1 (together parts) [] shape.steps) c.as_slice.ensures) c.round_out.ensures
+    IfOk-weaker c.round_out.result _ _ (λ out e real h. e ∙ round_is m shape real c.args.tables.now c.args.round state c.args.plan.now h ∙ ap (λ parts. parts_from m shape real c.args.round (together parts) (length shape.steps)) c.as_slice.ensures) c.round_out.ensures

@@ -1,5 +1,5 @@
 use Rattle.std.proofs.Common.{◌≡◌, ◌++◌, length}
-use Rattle.fixpoint_test.specs.Distances.{part_distances}
+use Rattle.plain_job.specs.Distances.{part_distances}
 use Rattle.memory_run.proofs.distance.distance_by_parts.Given as goal
 
 abbrev pub invariant-parts : goal.invariant-parts

@@ -1,7 +1,7 @@
 use Rattle.std.proofs.Common.{◌≡◌, ◌-◌, List, length}
 use Rattle.hal_base.specs.declared.record.Record.{Record}
 use Rattle.plain_job.specs.Chain.{table_at}
-use Rattle.memory_run.specs.Supplies.{FewServed, Serve}
+use Rattle.memory_run.specs.steps.Inputs.{FewInEach, Serve}
 use Rattle.memory_run.proofs.kept.keep_in_steps.Given as goal
 
 abbrev pub invariant-steps : goal.invariant-steps
@@ -9,7 +9,7 @@ invariant-steps g l =
     let means = g.F.Functions.meaning l.functions in
     let shape = l.table.shape.now in
     record {
-      few : FewServed l.plan;
+      few : FewInEach l.plan;
       serve : (real left : List (List Record)) → l.table.rows.now ≡ table_at left l.table.number → Serve means shape real left l.initial.plan → Serve means shape real left l.plan;
     }
 

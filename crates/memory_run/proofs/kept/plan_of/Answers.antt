@@ -4,7 +4,7 @@ use Rattle.memory_run.proofs.Serving.{few_read, read_serves}
 use Rattle.memory_run.proofs.kept.plan_of.Goals as goal
 
 pub keep_tables-requires-clause-few : goal.keep_tables-requires-clause-few
-keep_tables-requires-clause-few g c = few_read c.args.shape.now.steps c.deref_mut.result.now (c.deref_mut.ensures.value ∙ c.in_ok-plan.ensures) c.requires.few
+keep_tables-requires-clause-few g c = few_read c.args.shape.now.steps c.deref_mut.result.now (c.deref_mut.ensures.value ∙ c.in_ok-plan.ensures) c.requires.shape.few_steps.1 c.requires.shape.few_sources
 
 pub returns-clause-serve : goal.returns-clause-serve
 returns-clause-serve g c =

@@ -1,5 +1,5 @@
 use Rattle.std.proofs.Common.{◌+◌, ap, ◌∙◌, map, take, sym}
-use Rattle.memory_run.specs.Steps.{first_section, left_of}
+use Rattle.memory_run.specs.steps.Sections.{first_section, left_of}
 use Rattle.memory_run.proofs.Parting.{one_begun, one_taken}
 use Rattle.memory_run.proofs.sections.take_sections.Goals as goal
 

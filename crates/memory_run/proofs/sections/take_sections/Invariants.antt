@@ -1,5 +1,5 @@
 use Rattle.std.proofs.Common.{◌≡◌, ◌++◌, ◌-◌, map, length, take, drop}
-use Rattle.memory_run.specs.Steps.{first_section, later_sections, left_of, rows_of}
+use Rattle.memory_run.specs.steps.Sections.{first_section, later_sections, left_of, rows_of}
 use Rattle.memory_run.proofs.sections.take_sections.Given as goal
 
 abbrev pub invariant-spills : goal.invariant-spills

@@ -1,17 +1,9 @@
-use Rattle.std.proofs.Common.{◌+◌, length, drop}
+use Rattle.std.proofs.Common.{◌+◌, drop}
 use Rattle.std.proofs.lemmas.List.{at_drop_all}
 use Rattle.plain_job.specs.Job.{stream}
-use Rattle.partition_shuffle.specs.Spills.{dealt}
-use Rattle.partition_shuffle.proofs.Dealing.{dealt_more, dealt_end, first_within, stream_more}
+use Rattle.partition_shuffle.specs.steps.Dealt.{dealt}
+use Rattle.partition_shuffle.proofs.Dealing.{dealt_more, dealt_end, stream_more}
 use Rattle.partition_shuffle.proofs.shuffle.deal.Goals as goal
-
-pub deal_emitted-requires : goal.deal_emitted-requires
-deal_emitted-requires g c =
-    let m = g.F.Functions.meaning c.args.functions.now in
-    let means = m.map c.args.round c.args.step c.args.source in
-    let rows = c.as_slice-row-items.result.now in
-    let more = stream_more means rows c.rows.row-index c.row-item.result c.rows.emitted c.map.new.out c.rows-test.true c.row-item.is c.rows.invariant.none c.in_ok-map.ensures.appended in
-    first_within m c.args.round c.args.step (length c.rows.parts) (stream means (drop c.rows.row-index rows)) c.map.new.out (stream means (drop (c.rows.row-index + 1) rows)) more c.rows.invariant.within
 
 pub rows-preserved : goal.rows-preserved
 rows-preserved g c =
@@ -20,8 +12,8 @@ rows-preserved g c =
     let rows = c.as_slice-row-items.result.now in
     let whole = dealt m c.args.round c.args.step 0 c.args.parts.now (stream means rows) in
     let more = stream_more means rows c.rows.row-index c.row-item.result c.rows.emitted c.map.new.out c.rows-test.true c.row-item.is c.rows.invariant.none c.in_ok-map.ensures.appended in
-    let left = dealt_more m c.args.round c.args.step c.rows.parts c.deal_emitted.new.parts whole (stream means (drop c.rows.row-index rows)) c.map.new.out (stream means (drop (c.rows.row-index + 1) rows)) more c.in_ok-emitted.ensures.dealt c.rows.invariant.dealt c.rows.invariant.within in
-    record { none = c.in_ok-emitted.ensures.emptied; dealt = left.0; within = left.1 }
+    let left = dealt_more m c.args.round c.args.step c.rows.parts c.deal_emitted.new.parts whole (stream means (drop c.rows.row-index rows)) c.map.new.out (stream means (drop (c.rows.row-index + 1) rows)) more c.in_ok-emitted.ensures.dealt c.rows.invariant.dealt in
+    record { none = c.in_ok-emitted.ensures.emptied; dealt = left }
 
 pub returns : goal.returns
 returns g c =

@@ -1,6 +1,6 @@
-use Rattle.std.proofs.Common.{◌≡◌, [], length, drop}
+use Rattle.std.proofs.Common.{◌≡◌, [], drop}
 use Rattle.plain_job.specs.Job.{stream}
-use Rattle.partition_shuffle.specs.Spills.{HaveParts, dealt}
+use Rattle.partition_shuffle.specs.steps.Dealt.{dealt}
 use Rattle.partition_shuffle.proofs.shuffle.deal.Given as goal
 
 -- what the records that are left emit makes the parts what all records make of them
@@ -11,5 +11,4 @@ invariant-rows g l =
     record {
       none : l.emitted ≡ [];
       dealt : dealt means l.round l.step 0 l.parts emitted ≡ dealt means l.round l.step 0 l.initial.parts (stream (means.map l.round l.step l.source) l.row-items);
-      within : HaveParts means l.round l.step (length l.parts) emitted;
     }

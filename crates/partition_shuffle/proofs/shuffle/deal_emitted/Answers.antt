@@ -1,6 +1,6 @@
 use Rattle.std.proofs.Common.{[], ◌∷◌, ap, reverse, arith}
 use Rattle.std.proofs.lemmas.List.{nil_from_length}
-use Rattle.partition_shuffle.specs.Spills.{dealt}
+use Rattle.partition_shuffle.specs.steps.Dealt.{dealt}
 use Rattle.partition_shuffle.proofs.Dealing.{dealt_more, dealt_end, last_first}
 use Rattle.partition_shuffle.proofs.shuffle.deal_emitted.Goals as goal
 
@@ -10,12 +10,11 @@ rows-preserved g c =
     let whole = dealt m c.args.round c.args.step 0 c.args.parts.now c.args.emitted in
     let rest = c.pop.new.self.items in
     let turned = last_first c.rows.left.items rest c.in-Some.row c.in-Some.ensures.items in
-    let more = dealt_more m c.args.round c.args.step c.rows.parts c.add_to_part.new.parts whole (reverse c.rows.left.items) (c.in-Some.row ∷ []) (reverse rest) turned c.in_ok-add_to_part.ensures c.rows.invariant.dealt c.rows.invariant.within in
-    record { dealt = more.0; within = more.1 }
+    dealt_more m c.args.round c.args.step c.rows.parts c.add_to_part.new.parts whole (reverse c.rows.left.items) (c.in-Some.row ∷ []) (reverse rest) turned c.in_ok-add_to_part.ensures c.rows.invariant
 
 pub returns-clause-dealt : goal.returns-clause-dealt
 returns-clause-dealt g c =
     let m = g.F.Functions.meaning c.args.functions.now in
     let whole = dealt m c.args.round c.args.step 0 c.args.parts.now c.args.emitted in
     let none = nil_from_length c.rows.left.items (omega (arith, c.rows.left.ok, c.in_default.ensures.cases)) in
-    dealt_end m c.args.round c.args.step c.rows.parts whole (reverse c.rows.left.items) (ap reverse none) c.rows.invariant.dealt
+    dealt_end m c.args.round c.args.step c.rows.parts whole (reverse c.rows.left.items) (ap reverse none) c.rows.invariant

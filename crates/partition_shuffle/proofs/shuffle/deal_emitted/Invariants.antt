@@ -1,15 +1,12 @@
 use Rattle.std.proofs.Common.{◌≡◌, length, reverse}
-use Rattle.partition_shuffle.specs.Spills.{HaveParts, dealt}
+use Rattle.partition_shuffle.specs.steps.Dealt.{dealt}
 use Rattle.partition_shuffle.proofs.shuffle.deal_emitted.Given as goal
 
 -- the records that are left, last first, make the parts what all records make of them
 abbrev pub invariant-rows : goal.invariant-rows
 invariant-rows g l =
     let means = g.F.Functions.meaning l.functions in
-    record {
-      dealt : dealt means l.round l.step 0 l.parts (reverse l.left.items) ≡ dealt means l.round l.step 0 l.initial.parts l.fn.emitted;
-      within : HaveParts means l.round l.step (length l.parts) (reverse l.left.items);
-    }
+    dealt means l.round l.step 0 l.parts (reverse l.left.items) ≡ dealt means l.round l.step 0 l.initial.parts l.fn.emitted
 
 abbrev pub decreases-rows : goal.decreases-rows
 decreases-rows g l = length l.left.items

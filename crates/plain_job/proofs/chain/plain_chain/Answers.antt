@@ -1,7 +1,6 @@
 use Rattle.std.proofs.Common.{◌≡◌, false, refl, subst}
-use Rattle.plain_job.specs.Ends.{distance}
-use Rattle.plain_job.specs.Plain.{IsNear}
-use Rattle.plain_job.proofs.Begins.{next_begins, chain_ends}
+use Rattle.plain_job.specs.Distances.{distance}
+use Rattle.plain_job.proofs.Rounds.{Judged, next_begins, chain_ends}
 use Rattle.plain_job.proofs.chain.plain_chain.Goals as goal
 use Rattle.plain_job.proofs.chain.plain_chain.Goals.{then-near-via-then-near, then-near-via-else-near+then-round-rounds}
 
@@ -17,5 +16,5 @@ returns-then-near g c =
 
 pub rounds-preserved : goal.rounds-preserved
 rounds-preserved g c =
-    let far = subst (IsNear c.args.shape.now c.rounds.round (distance (g.F.Functions.meaning c.args.functions.now) c.args.shape.now c.rounds.state c.in_ok-left.left)) c.if-near.false c.in_ok-near.ensures in
+    let far = subst (Judged c.args.shape.now c.rounds.round (distance (g.F.Functions.meaning c.args.functions.now) c.args.shape.now c.rounds.state c.in_ok-left.left)) c.if-near.false c.in_ok-near.ensures in
     next_begins c.rounds.invariant (record { parts_are = c.in_ok-parts.ensures; left_is = c.in_ok-left.ensures }) far c.if-round-rounds.false

@@ -1,5 +1,5 @@
 use Rattle.std.proofs.Common.{◌-◌}
-use Rattle.plain_job.proofs.Begins.{Begins}
+use Rattle.plain_job.proofs.Rounds.{Begins}
 use Rattle.plain_job.proofs.chain.plain_chain.Given as goal
 
 abbrev pub invariant-rounds : goal.invariant-rounds

@@ -1,6 +1,6 @@
 use Rattle.std.proofs.Common.{◌≡◌, min, sum, map, take}
 use Rattle.hal_base.specs.declared.value.Value.{Value}
-use Rattle.plain_job.specs.Ends.{key_distance}
+use Rattle.plain_job.specs.Distances.{key_distance}
 use Rattle.plain_job.specs.Job.{group}
 use Rattle.plain_job.proofs.distance.distance_of.Given as goal
 

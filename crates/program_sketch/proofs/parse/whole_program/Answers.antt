@@ -1,6 +1,6 @@
 use Rattle.std.proofs.Common.{sym, ◌∙◌}
 use Rattle.std.proofs.lemmas.Result.{err_from_is_err_and}
-use Rattle.function_language.proofs.Ended.{refuses_so}
+use Rattle.program_tokens.proofs.Ended.{refuses_at}
 use Rattle.program_sketch.proofs.Programs.{whole_read, whole_refused, whole_unended}
 use Rattle.program_sketch.proofs.parse.whole_program.Goals as goal
 
@@ -11,7 +11,7 @@ returns-in_err-sketch-clause-refused c =
 
 pub returns-then-not-sees_end-clause-refused : goal.returns-then-not-sees_end-clause-refused
 returns-then-not-sees_end-clause-refused c =
-    refuses_so c.refused.result c.program.new.tokens (λ other. c.refused.ensures)
+    refuses_at c.refused.result c.program.new.tokens (λ other. c.refused.ensures)
     (whole_unended c.args.text.now c.in_ok-tokens.tokens c.program.new.tokens c.in_ok-sketch.sketch c.in_ok-tokens.ensures c.in_ok-sketch.ensures (sym c.sees_end.ensures ∙ c.if-not-sees_end.true))
 
 pub returns-clause-read : goal.returns-clause-read

@@ -1,8 +1,8 @@
 use Rattle.std.proofs.Common.{Err, Ok, ap, codes, ◌∙◌}
-use Rattle.program_tokens.specs.Front.{sees}
-use Rattle.function_language.specs.Parsers.{and_then, expect, repeated}
-use Rattle.function_language.proofs.Turns.{reads_refused}
-use Rattle.program_sketch.specs.Reading as reading
+use Rattle.program_tokens.specs.steps.Front.{sees}
+use Rattle.program_tokens.specs.steps.Parsers.{and_then, expect, repeated}
+use Rattle.program_tokens.proofs.Turns.{reads_refused}
+use Rattle.program_sketch.specs.steps.Reading as reading
 use Rattle.program_sketch.proofs.StepHalves.{behind_brace, behind_partition, behind_reduce, inputs_first}
 use Rattle.program_sketch.proofs.reader.step_rest.Goals as goal
 

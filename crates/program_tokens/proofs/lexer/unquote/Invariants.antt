@@ -1,5 +1,5 @@
 use Rattle.std.proofs.Common.{◌≡◌, ◌≤◌, ℕ, List, length}
-use Rattle.program_tokens.specs.Lexing.{cut_quoted}
+use Rattle.program_tokens.specs.steps.Lexing.{cut_quoted}
 use Rattle.program_tokens.proofs.lexer.unquote.Given as goal
 
 abbrev pub invariant-bytes : goal.invariant-bytes

@@ -1,5 +1,5 @@
 use Rattle.std.proofs.Common.{◌≡◌, ◌≤◌, ◌-◌, ◌++◌, length, take, drop}
-use Rattle.program_tokens.specs.Lexing.{word_front, word_rest}
+use Rattle.program_tokens.specs.steps.Lexing.{word_front, word_rest}
 use Rattle.program_tokens.proofs.lexer.word_length.Given as goal
 
 abbrev pub invariant-bytes : goal.invariant-bytes

@@ -1,8 +1,8 @@
 use Rattle.std.proofs.Common.{◌≡◌, ◌∙◌, Ok, ap, ap₂, subst, sym, take}
 use Rattle.std.proofs.lemmas.Result.{err_from_is_err_and}
-use Rattle.type_checker.specs.Found.{◌>>=◌, ◌>>◌}
+use Rattle.type_checker.specs.Checked.{◌>>=◌, ◌>>◌}
 use Rattle.type_checker.specs.Statements.{after, all_after}
-use Rattle.type_checker.specs.Steps.{FaultIs, Leaves, for_after, other_within, within}
+use Rattle.type_checker.specs.steps.Checks.{FaultIs, Leaves, for_after, other_within, within}
 use Rattle.type_checker.proofs.Faults.{fault_by}
 use Rattle.type_checker.proofs.Growing.{block_left, loop_left}
 use Rattle.type_checker.proofs.Rows.{for_is, if_chosen, if_tested}

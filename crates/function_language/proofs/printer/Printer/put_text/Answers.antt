@@ -1,6 +1,6 @@
 use Rattle.std.proofs.Common.{ℕ, List, ◌∷◌, [], ◌++◌, ap₂, ap, ◌∙◌}
 use Rattle.program_tokens.specs.Tokens.{escaped}
-use Rattle.function_language.specs.Printer.{Written}
+use Rattle.function_language.specs.steps.Printer.{Written}
 use Rattle.function_language.proofs.PrintingBlanks.{quoted_put}
 use Rattle.function_language.proofs.printer.Printer.put_text.Goals as goal
 

@@ -1,7 +1,7 @@
 use Rattle.std.proofs.Common.{◌≡◌, ℕ, ◌+◌, List, ◌∷◌, arith, ◌∙◌, ap, sym}
 use Rattle.program_tokens.specs.declared.token.Token.{Token}
 use Rattle.program_tokens.specs.Tokens.{from_token, line_ends}
-use Rattle.program_tokens.specs.Lexing.{behind, cut, tokens_of}
+use Rattle.program_tokens.specs.steps.Lexing.{behind, cut, tokens_of}
 use Rattle.program_tokens.proofs.Lists.{cut_lines, first_token}
 use Rattle.program_tokens.proofs.lexer.Lexer.token.Goals as goal
 

@@ -1,7 +1,7 @@
 use Rattle.std.proofs.Common.{sym, ap, ◌∙◌, take}
 use Rattle.std.proofs.lemmas.List.{take-map}
 use Rattle.type_checker.specs.declared.scope.Known.{Known}
-use Rattle.type_checker.specs.Scopes.{names_in}
+use Rattle.type_checker.specs.steps.Checks.{names_in}
 use Rattle.type_checker.proofs.scope.Scope.leave.Goals as goal
 
 -- the names of the values that stay

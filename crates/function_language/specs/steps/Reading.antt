@@ -1,0 +1,239 @@
+-- How functions are read, for the contracts of the reading steps alone. The number is how many blocks and calls may still open inside.
+use Rattle.std.specs.Prelude.{ℕ, zero, suc, Bool, cond, ◌||◌, List, [], ◌∷◌, length, Option, None, Some, Ok, codes}
+use Rattle.std.specs.Str.{bytes_eq}
+use Rattle.program_tokens.specs.declared.token.Lexeme.{Lexeme}
+use Rattle.program_tokens.specs.declared.token.Lexeme.TheVariants as lexeme
+use Rattle.program_tokens.specs.declared.token.Token.{Token}
+use Rattle.program_tokens.specs.steps.Front.{later, sees}
+use Rattle.program_tokens.specs.declared.token.Ident.{Ident}
+use Rattle.function_language.specs.declared.tree.Param.{Param}
+use Rattle.function_language.specs.declared.tree.Stream.{Stream}
+use Rattle.function_language.specs.declared.tree.Expr.{Expr}
+use Rattle.function_language.specs.declared.tree.Expr.TheVariants as an_expr
+use Rattle.function_language.specs.declared.tree.Statement.{Statement}
+use Rattle.function_language.specs.declared.tree.Statement.TheVariants as a_statement
+use Rattle.function_language.specs.declared.tree.Function.{Function}
+use Rattle.function_language.specs.declared.tree.Function.TheVariants as a_function
+use Rattle.program_tokens.specs.steps.Parsers.{Parser, kind, kinds, ◌>>=◌, ◌>>◌, pure, refuse, eat, expect, expect_end, expect_line, here, ident, peek, separated, closed, block_from, repeated}
+
+-- ---- parameters and streams
+
+unfoldable pub param : Parser Param
+param = do
+  name ← ident
+  expect (codes ":")
+  of ← kind
+  pure (record { name = name; kind = of })
+
+unfoldable pub stream : Parser Stream
+stream = do
+  name ← ident
+  expect (codes ":")
+  of ← kinds
+  pure (record { name = name; kinds = of })
+
+-- ---- expressions
+
+-- the expression that a token alone is, unless that is a name
+abbrev pub literal_in : ℕ → Lexeme → Option Expr
+literal_in line (lexeme.Plain word) = cond (bytes_eq word (codes "round")) (Some (an_expr.Round line)) None
+literal_in line (lexeme.Int n) = Some (an_expr.Int line n)
+literal_in line (lexeme.Quoted text) = Some (an_expr.Text line text)
+literal_in line lexeme.Bad = None
+literal_in line lexeme.End = None
+
+abbrev pub literal_at : List Token → Option Expr
+literal_at [] = None
+literal_at (token ∷ tokens) = literal_in token.line token.lexeme
+
+-- the tokens behind the first where it was something
+abbrev pub behind : {A : Type 0} → Option A → List Token → List Token
+behind (Some a) ts = later ts
+behind None ts = ts
+
+-- takes a literal, if one comes next
+unfoldable pub literal : Parser (Option Expr)
+literal = λ ts. Ok (literal_at ts, behind (literal_at ts) ts)
+
+-- what was found, or else what is read
+abbrev pub or_read : {A : Type 0} → Option A → Parser A → Parser A
+or_read (Some a) p = pure a
+or_read None p = p
+
+-- the arguments of a call and its `)`, behind its name, given how an argument is read
+unfoldable pub call_of : Parser Expr → Ident → Parser Expr
+call_of arg name = do
+  expect (codes "(")
+  args ← closed arg
+  pure (an_expr.Call name args)
+
+-- a name, or a call, given how it goes on behind its name
+unfoldable pub named : (Ident → Parser Expr) → Parser Expr
+named call = do
+  name ← ident
+  opens ← peek (codes "(")
+  cond opens (call name) (pure (an_expr.Name name))
+
+-- an expression, given how it goes on behind a name that calls
+abbrev pub expr_of : (Ident → Parser Expr) → Parser Expr
+expr_of call = do
+  found ← literal
+  or_read found (named call)
+
+-- a call behind its name
+abbrev pub call : ℕ → Ident → Parser Expr
+call zero name = refuse
+call (suc depth) name = call_of (expr_of (call depth)) name
+
+abbrev pub expr : ℕ → Parser Expr
+expr depth = expr_of (call depth)
+
+-- ---- statements
+
+-- what `let` and `set` have in common behind the word
+unfoldable pub binding : Parser Expr → (Ident → Expr → Statement) → Parser Statement
+binding value made = do
+  name ← ident
+  expect (codes "=")
+  bound ← value
+  expect (codes ";")
+  pure (made name bound)
+
+unfoldable pub if_statement : Parser Expr → Parser (List Statement) → Parser Statement
+if_statement value block = do
+  expect (codes "(")
+  test ← value
+  expect (codes ")")
+  chosen ← block
+  has_other ← eat (codes "else")
+  cond has_other (do
+    other ← block
+    pure (a_statement.If test chosen (Some other))) (pure (a_statement.If test chosen None))
+
+unfoldable pub for_statement : Parser (List Statement) → Parser Statement
+for_statement block = do
+  expect (codes "(")
+  names ← closed ident
+  expect (codes "in")
+  over ← ident
+  body ← block
+  pure (a_statement.For names over body)
+
+unfoldable pub emit_statement : Parser Expr → ℕ → Parser Statement
+emit_statement value line = do
+  expect (codes "(")
+  args ← closed value
+  expect (codes ";")
+  pure (a_statement.Emit line args)
+
+unfoldable pub give_statement : Parser Expr → ℕ → Parser Statement
+give_statement value line = do
+  expect (codes "(")
+  given ← value
+  expect (codes ")")
+  expect (codes ";")
+  pure (a_statement.Give line given)
+
+-- `emit` or `give`
+unfoldable pub result_statement : Parser Expr → Parser Statement
+result_statement value = do
+  line ← here
+  emits ← eat (codes "emit")
+  cond emits (emit_statement value line) (do
+    expect (codes "give")
+    give_statement value line)
+
+-- a statement, given how expressions and blocks in it are read
+unfoldable pub statement_of : Parser Expr → Parser (List Statement) → Parser Statement
+statement_of value block = do
+  lets ← eat (codes "let")
+  cond lets (binding value a_statement.Let) (do
+    sets ← eat (codes "set")
+    cond sets (binding value a_statement.Set) (do
+      ifs ← eat (codes "if")
+      cond ifs (if_statement value block) (do
+        fors ← eat (codes "for")
+        cond fors (for_statement block) (result_statement value))))
+
+-- the statements of a block and its `}`
+abbrev pub statements : Parser Statement → Parser (List Statement)
+statements statement = λ ts. block_from statement (suc (length ts)) [] ts
+
+abbrev pub block : ℕ → Parser (List Statement)
+block zero = refuse
+block (suc depth) = expect (codes "{") >> statements (statement_of (expr depth) (block depth))
+
+-- ---- functions
+
+-- what a function emits, and its body
+unfoldable pub map_function : Parser Function
+map_function = do
+  name ← ident
+  expect (codes "(")
+  params ← separated param
+  expect (codes ")")
+  arrow ← expect_line (codes "->")
+  out ← kinds
+  body ← block 32
+  pure (a_function.Map name params arrow (record { kinds = out }) body)
+
+unfoldable pub reduce_function : Parser Function
+reduce_function = do
+  name ← ident
+  expect (codes "(")
+  key ← param
+  expect (codes ";")
+  streams ← separated stream
+  expect (codes ")")
+  arrow ← expect_line (codes "->")
+  out ← kinds
+  body ← block 32
+  pure (a_function.Reduce name key streams arrow (record { kinds = out }) body)
+
+unfoldable pub distance_function : Parser Function
+distance_function = do
+  name ← ident
+  expect (codes "(")
+  key ← param
+  expect (codes ";")
+  before ← stream
+  expect (codes ",")
+  after ← stream
+  expect (codes ")")
+  body ← block 32
+  pure (a_function.Distance name key before after body)
+
+unfoldable pub partition_function : Parser Function
+partition_function = do
+  name ← ident
+  expect (codes "(")
+  key ← param
+  expect (codes ")")
+  body ← block 32
+  pure (a_function.Partition name key body)
+
+unfoldable pub function : Parser Function
+function = do
+  maps ← eat (codes "map")
+  cond maps map_function (do
+    reduces ← eat (codes "reduce")
+    cond reduces reduce_function (do
+      distances ← eat (codes "distance")
+      cond distances distance_function (do
+        expect (codes "partition")
+        partition_function)))
+
+-- a function comes next
+abbrev pub begins_function : List Token → Bool
+begins_function ts = sees (codes "map") ts || sees (codes "reduce") ts || sees (codes "distance") ts || sees (codes "partition") ts
+
+-- functions as long as one comes next
+abbrev pub functions : Parser (List Function)
+functions = repeated begins_function function []
+
+-- functions alone, to the end
+unfoldable pub only_functions : Parser (List Function)
+only_functions = do
+  found ← functions
+  expect_end
+  pure found

@@ -1,0 +1,10 @@
+pub mod GivenBodies
+pub mod GivenExpressions
+pub mod GivenFunctions
+pub mod LiteralValues
+pub mod NeverStopping
+pub mod RightBodies
+pub mod RightFunctions
+pub mod RightKinds
+pub mod RightStatements
+pub mod RightValues

@@ -1,0 +1,5 @@
+-- What the contracts of private steps say.
+pub mod Commands
+pub mod Inputs
+pub mod Outputs
+pub mod Words

@@ -1,0 +1,106 @@
+-- What the steps of reading the input find, and why they stop.
+use Rattle.std.specs.Prelude.{◌≡◌, ◌≢◌, ℕ, ◌⊎◌, List, ◌∷◌, ◌++◌, Option, None, Some}
+use Rattle.std.specs.FinMap as map
+use Rattle.hal_base.specs.declared.fields.Schema.{Schema}
+use Rattle.hal_base.specs.declared.record.Record.{Record}
+use Rattle.hal_base.specs.declared.table.TableFault.{TableFault}
+use Rattle.hal_base.specs.declared.table.TableFault.TheVariants as table_fault
+use Rattle.hal_base.specs.TableFaults.{HasTableFault}
+use Rattle.hal_outside.specs.declared.files.Files.{Ghosts}
+use Rattle.hal_outside.specs.declared.faults.FileFault.TheVariants as file
+use Rattle.hal_outside.specs.Told.{FileMap}
+use Rattle.hal_outside.specs.Faults.{AtFileDevice}
+use Rattle.hal_outside.specs.Calls.{AbsentsRose, FaultsRose, Tells}
+use Rattle.program_sketch.specs.declared.fault.What.{What}
+use Rattle.program_sketch.specs.declared.fault.ProgramFault.{ProgramFault}
+use Rattle.program_sketch.specs.declared.fault.ProgramFault.TheVariants.{At, Memory}
+use Rattle.loop_program.specs.Programs.{IsJustProgram, IsRefusedBy}
+use Rattle.loop_program.specs.Whole.{Whole}
+use Rattle.haloop_run.specs.declared.fault.InputFault.{InputFault}
+use Rattle.haloop_run.specs.declared.fault.InputFault.TheVariants.{Absent, BadProgram, NotBuilt, BadTable}
+use Rattle.haloop_run.specs.declared.fault.CommandFault.{CommandFault}
+use Rattle.haloop_run.specs.declared.fault.CommandFault.TheVariants.{Refused, Failed}
+use Rattle.haloop_run.specs.Words.{Asked}
+use Rattle.haloop_run.specs.Inputs.{Outcome, absent, bad_program, not_built, bad_table, ComesTo, HaveTables, Listed, schedule_text, tables_of}
+use Rattle.haloop_run.specs.Lines.{status_of}
+
+-- ---- why a step stops
+
+-- what the input comes to where this is wrong with it
+abbrev pub outcome_of : InputFault → Outcome
+outcome_of (Absent name) = absent name
+outcome_of (BadProgram line what) = bad_program line what
+outcome_of NotBuilt = not_built
+outcome_of (BadTable name what) = bad_table name what
+
+-- p where a file is absent
+abbrev pub AtAbsent : InputFault → Type 0 → Type 0
+AtAbsent (Absent name) p = p
+AtAbsent (BadProgram line what) p = Unit {0}
+AtAbsent NotBuilt p = Unit {0}
+AtAbsent (BadTable name what) p = Unit {0}
+
+-- the fault of a command whose program is refused
+abbrev pub program_refused : ProgramFault → CommandFault
+program_refused (At line what) = Refused (BadProgram line what)
+program_refused Memory = Failed file.Memory
+
+-- why a step stops: what the files told comes to this by P, or a device failed; and where a file is absent, a read found none
+abbrev pub Stops : {F : Type 0} → Ghosts F → F → F → (FileMap → Outcome → Type 0) → CommandFault → Type 0
+Stops g old new P (Refused fault) = ((told : FileMap) → Tells g old told → P told (outcome_of fault)) × AtAbsent fault (AbsentsRose g old new)
+Stops g old new P (Failed fault) = AtFileDevice fault (FaultsRose g old new)
+
+-- ---- what the steps find
+
+-- the table of this name, this file and this schema
+abbrev pub listing : List ℕ → List ℕ → Schema → Listed
+listing name file schema = record { name = name; file = file; schema = schema }
+
+-- the file of this name has this text
+abbrev pub HasFile : List ℕ → List ℕ → FileMap → Type 0
+HasFile name text files = map.get files name ≡ Some text
+
+-- there is no file of this name
+abbrev pub NoFile : List ℕ → FileMap → Outcome → Type 0
+NoFile name files it = (map.get files name ≡ None) × (it ≡ absent name)
+
+-- the file of this name has the text of this program
+pub record IsProgramOf (name : List ℕ) (program : Whole) (files : FileMap) : Type 0 where
+  pub text : List ℕ
+  pub there : HasFile name text files
+  pub just : IsJustProgram text program
+
+-- the file of this name is not there, or something is wrong with its text
+abbrev pub NoProgram : List ℕ → FileMap → Outcome → Type 0
+NoProgram name files it =
+    NoFile name files it ⊎ ((text : List ℕ) × HasFile name text files × (line : ℕ) × (what : What) × IsRefusedBy text (At line what) × (it ≡ bad_program line what))
+
+-- the file of this name is not there, or has another schedule
+abbrev pub OtherSchedule : List ℕ → FileMap → Outcome → Type 0
+OtherSchedule name files it = NoFile name files it ⊎ ((text : List ℕ) × HasFile name text files × (text ≢ schedule_text) × (it ≡ not_built))
+
+-- a schedule is asked for that is not there, or another one
+abbrev pub NoSchedule : Option (List ℕ) → FileMap → Outcome → Type 0
+NoSchedule None files it = ⊥
+NoSchedule (Some name) files it = OtherSchedule name files it
+
+-- the file of this table is not there, or has a fault
+abbrev pub NoTable : Listed → FileMap → Outcome → Type 0
+NoTable table files it =
+    NoFile table.file files it
+    ⊎ ((bytes : List ℕ) × HasFile table.file bytes files × (what : TableFault) × HasTableFault table.schema bytes what × (what ≢ table_fault.Memory) × (it ≡ bad_table table.name what))
+
+-- the tables before one are accepted, and it is not
+pub record StopsAtTable (program : Whole) (files : FileMap) (it : Outcome) : Type 0 where
+  pub table : Listed
+  pub before : List Listed
+  pub behind : List Listed
+  pub in_order : tables_of program ≡ before ++ table ∷ behind
+  pub rows : List (List Record)
+  pub have_tables : HaveTables files before rows
+  pub no_table : NoTable table files it
+
+-- the input comes to this, and to nothing with another status
+pub record Judged (asked : Asked) (files : FileMap) (it : Outcome) : Type 0 where
+  pub comes : ComesTo files asked it
+  pub only : (other : Outcome) → ComesTo files asked other → status_of other ≡ status_of it

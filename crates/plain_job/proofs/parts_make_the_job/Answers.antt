@@ -1,5 +1,0 @@
-use Rattle.plain_job.proofs.Parted.{parts}
-use Rattle.plain_job.proofs.parts_make_the_job.Goals as goal
-
-pub returns : goal.returns
-returns c = parts
