@@ -1,5 +1,5 @@
 #!/bin/sh
-# run.sh [PROGRAM]: times two reduces over 1,000,000 groups each, written by hand in Rust and run by the interpreter,
+# run.sh [PROGRAM]: times two reduces over 1,000,000 groups each, written by hand in Rust and run by the evaluator,
 # side by side, and checks that both programs print the same lines. PROGRAM is the path of the built function_bench.
 
 set -eu

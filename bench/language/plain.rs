@@ -1,5 +1,5 @@
 //! plain PROGRAM: reads the text of a program as one would by hand in Rust, a tokenizer and a parser by recursive
-//! descent that make a tree. It ends with status 12 for a program, and with 2 at a fault of syntax.
+//! descent that make a tree. It ends with status 11 for a program, as one whose table is not there, and with 2 at a fault of syntax.
 
 use std::env;
 use std::fs;
