@@ -3,7 +3,7 @@ ghost use Rattle.std.specs.IoError.{error_kind};
 ghost use Rattle.hal_outside.specs.Told.{Rose};
 ghost use Rattle.hal_outside.specs.Faults.{AtFileDevice};
 
-use crate::device::device_fault;
+use crate::device::{device_fault, tell_failure};
 use hal_outside::{FileFault, Files};
 use std::alloc::Global;
 use std::fs::OpenFile;
@@ -14,8 +14,8 @@ use std::{fs, io, rt};
 /// The most bytes that are read of a file, 64 GiB.
 const MOST_BYTES: u64 = 68_719_476_736;
 
-/// The files of the current folder, by their paths from it. It counts the calls that a device failed and
-/// the reads that found no file; both counts stop at their last value.
+/// The files of the current folder, by their paths from it. It counts the calls that a device failed, and tells
+/// each on the standard error, and it counts the reads that found no file; both counts stop at their last value.
 #[derive(Drop)]
 pub struct FolderFiles<R> {
     runtime: R,
@@ -35,9 +35,12 @@ impl<R> FolderFiles<R> {
             absents: 0,
         }
     }
+}
 
-    /// What a failed call answers. It counts a device's failure, and does not count want of memory.
-    fn fault(&mut self, error: &io::Error) -> FileFault
+impl<R: Eprint> FolderFiles<R> {
+    /// What a failed call on the file of this name answers. It counts and tells a device's failure, and does neither
+    /// for want of memory.
+    fn fault(&mut self, name: &str, error: &io::Error) -> FileFault
         ensures faults_stay { self.old.faults ≤ self.new.faults }
         ensures counted { AtFileDevice result (self.new.faults ≡ min (self.old.faults + 1) u64.MAX) }
         ensures kept { result ≡ FileFault.Memory → self.new.faults ≡ self.old.faults }
@@ -49,11 +52,12 @@ impl<R> FolderFiles<R> {
             return FileFault::Memory;
         }
         self.faults = self.faults.saturating_add(1);
+        tell_failure(&self.runtime, name, error);
         FileFault::Device(device_fault(error))
     }
 }
 
-impl<R: rt::Files> Files for FolderFiles<R> {
+impl<R: rt::Files + Eprint> Files for FolderFiles<R> {
     ghost faults = { λ f. f.faults };
 
     ghost absents = { λ f. f.absents };
@@ -64,20 +68,20 @@ impl<R: rt::Files> Files for FolderFiles<R> {
         match fs::open(&self.runtime, name) {
             Ok(file) => match read_whole(alloc, file) {
                 Ok(bytes) => Ok(Some(bytes)),
-                Err(error) => Err(self.fault(&error)),
+                Err(error) => Err(self.fault(name, &error)),
             },
             Err(error) if error.kind() == ErrorKind::NotFound => {
                 self.absents = self.absents.saturating_add(1);
                 Ok(None)
             }
-            Err(error) => Err(self.fault(&error)),
+            Err(error) => Err(self.fault(name, &error)),
         }
     }
 
     fn write(&mut self, name: &str, bytes: &[u8]) -> Result<(), FileFault> {
         match write_whole(&self.runtime, name, bytes) {
             Ok(()) => Ok(()),
-            Err(error) => Err(self.fault(&error)),
+            Err(error) => Err(self.fault(name, &error)),
         }
     }
 }

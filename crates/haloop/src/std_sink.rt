@@ -1,11 +1,11 @@
 ghost use Rattle.std.specs.Prelude.{◌≡◌, None};
 
-use crate::device::device_fault;
+use crate::device::{device_fault, tell_failure};
 use hal_outside::{Sink, SinkFault};
 use std::io::ErrorKind;
 
 /// The standard output, with no buffer, so that each error shows at the write that failed. It counts
-/// the writes that the device failed; the count stops at its last value.
+/// the writes that the device failed, and tells each on the standard error; the count stops at its last value.
 #[derive(Drop)]
 pub struct StdSink<R> {
     runtime: R,
@@ -21,7 +21,7 @@ impl<R> StdSink<R> {
     }
 }
 
-impl<R: Print> Sink for StdSink<R> {
+impl<R: Print + Eprint> Sink for StdSink<R> {
     ghost faults = { λ s. s.faults };
 
     ghost told = { λ _. None };
@@ -32,6 +32,7 @@ impl<R: Print> Sink for StdSink<R> {
             Err(error) if error.kind() == ErrorKind::OutOfMemory => Err(SinkFault::Memory),
             Err(error) => {
                 self.faults = self.faults.saturating_add(1);
+                tell_failure(&self.runtime, "standard output", &error);
                 Err(SinkFault::Device(device_fault(&error)))
             }
         }
