@@ -174,23 +174,24 @@ fn refusals_name_their_cause(rt: HostRuntime) -> Result<(), Fail> {
     Ok(())
 }
 
-// Four files are read, and two are written.
+// Four files are read, and two are written. One call fails, so a body that tried again would be done.
 #[test]
 fn failures_of_files(rt: HostRuntime) -> Result<(), Fail> {
-    for left in 0..7 {
+    for failing in 0..7 {
         let words = words_of(rt.alloc(), &["run", "p.hal", "s.txt", "out"])?;
         let mut files = FailingFiles {
             files: files_of(rt.alloc(), HOPS, "1\t0\n", "1\t2\n2\t3\n")?,
-            left,
+            failing,
+            calls: 0,
             faults: 0,
         };
         let mut sink = MemSink::new(rt.alloc());
         let status = haloop_top(rt.alloc(), words.as_slice(), &mut files, &mut sink);
-        let said = if left < 6 { "error: device\n" } else { DONE };
-        assert_eq!(rt; status, if left < 6 { 8 } else { 0 });
-        assert!(rt; sink.bytes() == said.as_bytes(), "after {left} calls");
-        assert_eq!(rt; files.files.bytes("out/part-00000").is_some(), left >= 5);
-        assert_eq!(rt; files.files.bytes("out/part-00001").is_some(), left >= 6);
+        let said = if failing < 6 { "error: device\n" } else { DONE };
+        assert_eq!(rt; status, if failing < 6 { 8 } else { 0 });
+        assert!(rt; sink.bytes() == said.as_bytes(), "after {failing} calls");
+        assert_eq!(rt; files.files.bytes("out/part-00000").is_some(), failing >= 5);
+        assert_eq!(rt; files.files.bytes("out/part-00001").is_some(), failing >= 6);
     }
     Ok(())
 }
@@ -202,7 +203,8 @@ fn failures_of_the_sink(rt: HostRuntime) -> Result<(), Fail> {
         let mut files = files_of(rt.alloc(), HOPS, "1\t0\n", "1\t2\n")?;
         let mut sink = FailingSink {
             sink: MemSink::new(rt.alloc()),
-            left: 0,
+            failing: 0,
+            calls: 0,
             faults: 0,
         };
         let status = haloop_top(rt.alloc(), words.as_slice(), &mut files, &mut sink);
