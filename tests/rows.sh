@@ -171,8 +171,8 @@ expand() {
 # Takes the next lines of obey into $taken, up to one of this form, which is then $line.
 take_up_to() {
     taken=
-    while [ "$at" -lt "${#todo[@]}" ]; do
-        line=${todo[at++]}
+    while [ "$at" -lt "${#orders[@]}" ]; do
+        line=${orders[at++]}
         [[ $line != $1 ]] || return 0
         taken+=${taken:+$'\n'}$line
     done
@@ -192,10 +192,10 @@ each() {
 
 # obey TEXT: does what its lines say, one after the other.
 obey() {
-    local todo at=0 line taken
-    mapfile -t todo <<<"$1"
-    while [ "$at" -lt "${#todo[@]}" ]; do
-        line=${todo[at++]}
+    local orders at=0 line taken
+    mapfile -t orders <<<"$1"
+    while [ "$at" -lt "${#orders[@]}" ]; do
+        line=${orders[at++]}
         [[ $line != *'$'* ]] || fill "$line" || continue
         case $line in
             '' | '#'*) ;;
