@@ -15,7 +15,7 @@ trap 'cd / && rm -rf "$work"' EXIT
 trap 'exit 1' HUP INT TERM
 
 # The bodies of words that are defined, and their names; the names of the body at work, and those of all.
-declare -A bodies=() heads=() given=() named=([mark]='$' [top]="$top")
+declare -A bodies=() heads=() given=() named=([mark]='$' [top]="$top" [haloop]="$haloop")
 # The word to which the lines with | in front belong, what it is about, and the text so far.
 name='' cases=0 failed=0 taker='' about='' text=''
 none=$'\001' # stands for a cell that a row does not have
