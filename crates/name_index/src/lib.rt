@@ -1,4 +1,4 @@
-//! An index of names: the first place of a name is found without a walk over all of them.
+//! An index of names: the first place of a name among many, and the first of many items that has a name.
 #![tactic(auto)]
 
 ghost use Rattle.std.specs.Prelude.{◌≡◌, ◌≤◌, ◌-◌, [], ◌∷◌, ◌++◌, length, take, IfSome, OnErr, OnOk};
@@ -6,7 +6,10 @@ ghost use Rattle.std.specs.List.{list_any};
 ghost use Rattle.std.specs.Str.{bytes_eq};
 ghost use Rattle.name_index.specs.Names.{place_of};
 
+mod named;
+
 use hal_base::{CopyIn, Memory, Text};
+pub use named::{Named, NamedItems};
 use std::alloc::Global;
 use std::collections::BTreeMap;
 use std::marker::Model;
@@ -50,7 +53,7 @@ impl NameIndex {
         self.names.len()
     }
 
-    /// The first place at which this name stands, without a walk over the names.
+    /// The first place at which this name stands.
     pub fn place_of(&self, name: &[u8]) -> Option<usize>
         ensures place { result ≡ place_of name.now self.now }
         ensures bound { IfSome result (λ place. place ≤ 9223372036854775807) }

@@ -2,5 +2,4 @@ pub mod Binding
 pub mod Faults
 pub mod FlagsLaws
 pub mod Growing
-pub mod NameLaws
 pub mod Rows

@@ -1,7 +1,7 @@
 -- What is in scope within a function.
 use Rattle.std.specs.Prelude.{ℕ, Bool, cond, ◌||◌, List, [], ◌∷◌, ◌++◌, Option, None, Some, is_some, Ok, Err}
-use Rattle.std.specs.Str.{bytes_eq}
 use Rattle.hal_base.specs.declared.value.Kind.{Kind}
+use Rattle.name_index.specs.Names.{named}
 use Rattle.program_tokens.specs.declared.token.Ident.{Ident}
 use Rattle.type_checker.specs.declared.fault.TypeFault.TheVariants.{DoubleName, UnknownName}
 use Rattle.type_checker.specs.declared.scope.Known.{Known}
@@ -9,15 +9,21 @@ use Rattle.type_checker.specs.declared.scope.KnownStream.{KnownStream}
 use Rattle.type_checker.specs.declared.scope.Setting.{Setting}
 use Rattle.type_checker.specs.Checked.{Checked}
 
+-- the name of a parameter or a variable
+abbrev pub known_name : Known → List ℕ
+known_name value = value.name
+
+-- the name of a stream
+abbrev pub stream_name : KnownStream → List ℕ
+stream_name stream = stream.name
+
 -- the first parameter or variable of this name
 abbrev pub known : List ℕ → List Known → Option Known
-known name [] = None
-known name (value ∷ values) = cond (bytes_eq name value.name) (Some value) (known name values)
+known name values = named known_name name values
 
 -- the first stream of this name
 abbrev pub stream_named : List ℕ → List KnownStream → Option KnownStream
-stream_named name [] = None
-stream_named name (stream ∷ streams) = cond (bytes_eq name stream.name) (Some stream) (stream_named name streams)
+stream_named name streams = named stream_name name streams
 
 -- a parameter, a variable or a stream has this name
 abbrev pub is_taken : List ℕ → List Known → List KnownStream → Bool

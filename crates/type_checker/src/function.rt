@@ -4,7 +4,7 @@ ghost use Rattle.type_checker.specs.Functions.{body_right, functions_right, para
 ghost use Rattle.type_checker.specs.steps.Checks.{Leaves, Passes, Tells, distance_right, function_right, map_right, partition_right, reduce_right, stream_beside};
 
 use crate::fault::TypeFault;
-use crate::scope::{KnownStream, Scope, Setting, declare, is_taken, value_of};
+use crate::scope::{KnownStream, KnownStreams, Scope, Setting, declare, is_taken, value_of};
 use crate::statement::check_statements;
 use function_language::{Block, Function, Param, Row, Statement, Stream};
 use hal_base::{CopyIn, Items, Kind, Memory};
@@ -122,7 +122,7 @@ fn check_map(
         function: number,
         has_round: true,
         out: Some(copy_kinds(alloc, out.kinds.as_slice())?),
-        streams: Items::new(alloc),
+        streams: KnownStreams::new(alloc),
     };
     let mut scope = Scope::new(alloc);
     declare_params(alloc, &setting, &mut scope, params)?;
@@ -162,7 +162,7 @@ fn check_distance(
     ensures { Passes (distance_right number key.now before.now after.now body.now) result }
 {
     let mut scope = key_scope(alloc, key)?;
-    let mut streams = Items::new(alloc);
+    let mut streams = KnownStreams::new(alloc);
     add_stream(alloc, number, &scope, &mut streams, before)?;
     add_stream(alloc, number, &scope, &mut streams, after)?;
     let setting = Setting {
@@ -188,7 +188,7 @@ fn check_partition(
         function: number,
         has_round: true,
         out: None,
-        streams: Items::new(alloc),
+        streams: KnownStreams::new(alloc),
     };
     check_statements(alloc, &setting, &mut scope, body)
 }
@@ -230,10 +230,10 @@ fn known_streams(
     number: u64,
     scope: &Scope,
     streams: &[Stream],
-) -> Result<Items<KnownStream>, TypeFault>
+) -> Result<KnownStreams, TypeFault>
     ensures { Tells (streams_beside number scope.now [] streams.now) result }
 {
-    let mut known = Items::new(alloc);
+    let mut known = KnownStreams::new(alloc);
     'streams: for stream in streams {
         add_stream(alloc, number, scope, &mut known, stream)?;
     }
@@ -245,21 +245,22 @@ fn add_stream(
     alloc: Global,
     number: u64,
     scope: &Scope,
-    known: &mut Items<KnownStream>,
+    known: &mut KnownStreams,
     stream: &Stream,
 ) -> Result<(), TypeFault>
     ensures { Leaves (stream_beside number scope.now known.old stream.now) result known.new }
 {
     let name = &stream.name;
-    if is_taken(name.text.as_slice(), scope, known.as_slice()) {
+    if is_taken(name.text.as_slice(), scope, known) {
         return Err(TypeFault::DoubleName {
             function: number,
             line: name.line,
         });
     }
-    known.push(KnownStream {
+    let added = KnownStream {
         name: name.text.copy(alloc)?,
         kinds: copy_kinds(alloc, stream.kinds.as_slice())?,
-    })?;
+    };
+    known.push(alloc, added)?;
     Ok(())
 }

@@ -83,7 +83,7 @@ fn check_block(
 {
     let before = scope.len();
     check_statements(alloc, setting, scope, block)?;
-    scope.leave(before);
+    scope.truncate(before);
     Ok(())
 }
 
@@ -102,7 +102,7 @@ fn check_for(
     let before = scope.len();
     enter_loop(alloc, setting, scope, names, stream)?;
     check_statements(alloc, setting, scope, body)?;
-    scope.leave(before);
+    scope.truncate(before);
     Ok(())
 }
 
@@ -149,7 +149,7 @@ fn enter_loop(
 ) -> Result<(), TypeFault>
     ensures { Leaves (loop_scope setting.now scope.old names.now stream.now) result scope.new }
 {
-    let found = setting.stream_named(stream.text.as_slice());
+    let found = setting.streams.find(stream.text.as_slice());
     declare_names(alloc, setting, scope, names, kinds_of(found))?;
     has_fields(setting, stream, names.len(), found)?;
     Ok(())

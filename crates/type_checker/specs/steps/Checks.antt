@@ -1,5 +1,5 @@
 -- What the steps of the check find.
-use Rattle.std.specs.Prelude.{◌≡◌, ℕ, true, false, Option, None, Some, List, [], ◌∷◌, ◌++◌, Result, Ok, Err, cond, map}
+use Rattle.std.specs.Prelude.{◌≡◌, ℕ, true, false, Option, None, Some, List, [], ◌∷◌, ◌++◌, Result, Ok, Err, cond}
 use Rattle.hal_base.specs.declared.value.Kind.TheVariants as kind
 use Rattle.function_language.specs.declared.tree.Expr.{Expr}
 use Rattle.function_language.specs.declared.tree.Function.{Function}
@@ -18,10 +18,6 @@ use Rattle.type_checker.specs.Functions.{body_right, key_scope, name_free, name_
 use Rattle.type_checker.specs.Kinds.{is_of_kind}
 use Rattle.type_checker.specs.Scopes.{is_taken}
 use Rattle.type_checker.specs.Statements.{all_after, loop_scope}
-
--- the names of parameters and variables
-abbrev pub names_in : List Known → List (List ℕ)
-names_in values = map (λ (value : Known). value.name) values
 
 -- this fault is the one that is found, or memory ran out
 abbrev pub FaultIs : {A : Type 0} → Checked A → TypeFault → Type 0

@@ -13,7 +13,7 @@ check_block-returns t c =
     let scope = c.args.scope.now in
     let inside = c.check_statements.new.scope in
     ap (λ found. found >> Ok scope) c.in_ok-check_statements.ensures
-    ∙ sym (ap Ok (c.leave.ensures ∙ ap (λ n. take n inside) c.len-before.ensures ∙ block_left c.args.setting.now scope inside c.args.block.now c.in_ok-check_statements.ensures))
+    ∙ sym (ap Ok (c.truncate.ensures ∙ ap (λ n. take n inside) c.len-before.ensures ∙ block_left c.args.setting.now scope inside c.args.block.now c.in_ok-check_statements.ensures))
 
 pub check_for-returns : goal.check_for-returns
 check_for-returns t c =
@@ -23,7 +23,7 @@ check_for-returns t c =
     let behind = c.check_statements.new.scope in
     ap (λ found. found >>= λ inside. all_after setting inside c.args.body.now >> Ok scope) c.in_ok-enter_loop.ensures
     ∙ ap (λ found. found >> Ok scope) c.in_ok-check_statements.ensures
-    ∙ sym (ap Ok (c.leave.ensures ∙ ap (λ n. take n behind) c.len-before.ensures ∙ loop_left setting scope inside behind c.args.names.now c.args.stream.now c.args.body.now c.in_ok-enter_loop.ensures c.in_ok-check_statements.ensures))
+    ∙ sym (ap Ok (c.truncate.ensures ∙ ap (λ n. take n behind) c.len-before.ensures ∙ loop_left setting scope inside behind c.args.names.now c.args.stream.now c.args.body.now c.in_ok-enter_loop.ensures c.in_ok-check_statements.ensures))
 
 pub check_statement-returns-in-For : goal.check_statement-returns-in-For
 check_statement-returns-in-For t c =
