@@ -5,8 +5,4 @@ pub mod GrammarSignatures
 pub mod GrammarStatements
 pub mod Inner
 pub mod Places
-pub mod PrintingBlanks
-pub mod PrintingLaws
-pub mod PrintingLines
-pub mod PrintingPlaces
 pub mod Shorter

@@ -1,4 +1,3 @@
 -- What the contracts of private steps say.
-pub mod Printer
 pub mod Reading
 pub mod SpelledLists

@@ -12,8 +12,8 @@ use program_tokens::{
 use sqlite_items::Items;
 use std::alloc::Global;
 
-/// How many blocks and calls may be open at once.
-pub(crate) const DEPTH: u32 = 32;
+/// How many blocks and calls may be open at once. docs/LANGUAGE.md, "Functions".
+pub const DEPTH: u32 = 32;
 
 /// Reads functions as long as one comes next. docs/LANGUAGE.md, "Functions".
 #[tactic(auto, using(crate::proofs::Places::read_spelled))]

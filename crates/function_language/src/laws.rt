@@ -1,4 +1,3 @@
-ghost use Rattle.function_language.specs.Printing.{PrintIsReadAgain};
 ghost use Rattle.program_tokens.specs.Texts.{FaultIsOfNoTree, IsOfOneTree};
 ghost use Rattle.function_language.specs.Spelled.{only_functions_pieces};
 
@@ -10,9 +9,4 @@ pub fn a_text_is_of_one_tree()
 /// A text with a fault is that of no functions, and its fault is in one line.
 pub fn a_fault_is_of_no_tree()
     ensures { FaultIsOfNoTree only_functions_pieces }
-{}
-
-/// The print of any functions that can be spelled is a text of these functions, each in a line of its own.
-pub fn what_is_printed_is_read_again()
-    ensures { PrintIsReadAgain }
 {}

@@ -1,5 +1,6 @@
 // Programs and functions as they are written, read and printed.
-use function_language::{print_functions, read_functions};
+use function_language::read_functions;
+use function_printing::print_functions;
 use hal_base::Shape;
 use loop_program::{ProgramFault, What, read_program};
 use program_sketch::parse_program;

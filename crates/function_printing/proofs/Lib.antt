@@ -1,0 +1,4 @@
+pub mod PrintingBlanks
+pub mod PrintingLaws
+pub mod PrintingLines
+pub mod PrintingPlaces
