@@ -4,13 +4,12 @@ use Rattle.std.specs.Str.{bytes_eq}
 use Rattle.hal_base.specs.declared.value.Kind.{Kind}
 use Rattle.program_tokens.specs.steps.Front.{is_plain, sees}
 use Rattle.program_tokens.specs.declared.token.Token.{Token}
-use Rattle.program_tokens.specs.steps.Parsers.{expect, expect_line, pure, separated, ◌>>=◌, ◌>>◌}
-use Rattle.program_tokens.specs.Pieces.{Piece, end, name, placed, plain}
-use Rattle.function_language.specs.steps.Reading.{begins_function, block, distance_function, function, functions, map_function, only_functions, param, partition_function, reduce_function, stream}
-use Rattle.program_tokens.specs.steps.Parsers.{kinds}
+use Rattle.program_tokens.specs.steps.Parsers.{expect, separated, ◌>>◌}
+use Rattle.program_tokens.specs.Pieces.{Piece, end, name, plain}
+use Rattle.function_language.specs.steps.Reading.{begins_function, distance_function, function, functions, keyed, map_function, only_functions, param, partition_function, reduce_function, stream, tail}
 use Rattle.function_language.specs.Spelled.{block_pieces, function_pieces, functions_pieces, out_pieces, param_pieces, stream_pieces}
-use Rattle.program_tokens.specs.Pieces.{kinds_pieces}
-use Rattle.program_tokens.specs.Pieces.{in_parentheses, some_comma_separated}
+use Rattle.program_tokens.specs.Pieces.{some_comma_separated}
+use Rattle.function_language.specs.declared.function.Tail.{Tail}
 use Rattle.function_language.specs.declared.tree.Function.{Function}
 use Rattle.function_language.specs.declared.tree.Function.TheVariants as a_function
 use Rattle.program_tokens.specs.declared.token.Ident.{Ident}
@@ -21,11 +20,12 @@ use Rattle.function_language.specs.declared.tree.Stream.{Stream}
 use Rattle.program_tokens.proofs.Right.{Exactly, Right, Spells, respelled}
 use Rattle.program_tokens.proofs.Choices.{Either, Not}
 use Rattle.program_tokens.proofs.Firsts.{Begins, Free, Stopping, begins_follows, either_begins}
-use Rattle.program_tokens.proofs.OneToken.{end_right, expect_line_right, ident_right}
+use Rattle.program_tokens.proofs.OneToken.{end_right, expect_line_right}
 use Rattle.program_tokens.proofs.Parts.{Made, exactly, free_part, last_part, made_begins, part, word_then}
-use Rattle.program_tokens.proofs.Avoiding.{Avoids, Unseen, eat_right, mark_follows, passed, plain_avoids, refused_unseen}
+use Rattle.program_tokens.proofs.Avoiding.{Avoids, Unseen, eat_right, passed, plain_avoids, refused_unseen}
 use Rattle.program_tokens.proofs.Many.{separated_right, while_from_right}
-use Rattle.function_language.proofs.GrammarSignatures.{param_right, stream_right}
+use Rattle.function_language.proofs.GrammarSignatures.{named_before, param_right, stream_right}
+use Rattle.function_language.proofs.Before.{free_before, unseen_before}
 use Rattle.program_tokens.proofs.KindReaders.{kinds_right}
 use Rattle.function_language.proofs.GrammarStatements.{block_right}
 
@@ -47,62 +47,74 @@ params_right = separated_right param_pieces Free (Unseen (codes ",")) param (par
 streams_right : Right (Exactly (λ ss. some_comma_separated (map stream_pieces ss))) (Unseen (codes ",")) (separated stream)
 streams_right = separated_right stream_pieces Free (Unseen (codes ",")) stream (stream_right Free) stream_some (λ token tokens fits. tt) (λ rest stop. tt) (λ rest stop. stop)
 
--- the arrow, what is emitted, and the body
-abbrev Out : Type 0
-Out = ℕ × (List Kind × List Statement)
-
--- how they are spelled
-abbrev out_of : Out → List Piece
-out_of c = placed (codes "->") c.0 ∷ (kinds_pieces c.1.0 ++ block_pieces 32 c.1.1)
+-- how a name and a key are spelled, with the marks behind them
+abbrev keyed_pieces : List ℕ → Ident × Param → List Piece
+keyed_pieces mark c = name c.0 ∷ plain (codes "(") ∷ (param_pieces c.1 ++ plain mark ∷ [])
 
 -- they are read right
-out_right : (made : ℕ → List Kind → List Statement → Function) → Right (Made {C = Out} (λ c. made c.0 c.1.0 c.1.1) out_of) Free (expect_line (codes "->") >>= λ arrow. kinds >>= λ out. block 32 >>= λ body. pure (made arrow out body))
-out_right made = free_part {make = λ (c : Out). made c.0 c.1.0 c.1.1} (expect_line_right (codes "->") Free) (λ arrow. free_part (kinds_right Free) (λ out. last_part (λ body. made arrow out body) (block_right 32 Free)))
+keyed_right : (mark : List ℕ) → Right (Exactly (keyed_pieces mark)) Free (keyed mark)
+unfolding keyed
+keyed_right mark = exactly (keyed_pieces mark) (λ c. c) (λ c. refl) (λ c. refl)
+    (free_part {make = λ (c : Ident × Param). c} (named_before (codes "(") Free) (λ i. last_part (λ key. (i, key)) (free_before mark param_pieces Free param (param_right Free))))
+
+-- how what is emitted, and the body, are spelled
+abbrev tail_pieces : Tail → List Piece
+tail_pieces t = out_pieces t.arrow t.out t.body
+
+-- they are read right
+tail_right : Right (Exactly tail_pieces) Free tail
+unfolding tail
+tail_right = exactly tail_pieces (λ t. (t.arrow, (t.out.kinds, t.body))) (λ t. refl) (λ c. refl)
+    (free_part {make = λ (c : ℕ × (List Kind × List Statement)). record { arrow = c.0; out = record { kinds = c.1.0 }; body = c.1.1 }} (expect_line_right (codes "->") Free)
+    (λ arrow. free_part (kinds_right Free) (λ out. last_part (λ body. record { arrow = arrow; out = record { kinds = out }; body = body }) (block_right 32 Free))))
 
 -- a `map`
 abbrev Mapped : Spells Function
-Mapped = Made {C = Ident × (List Param × Out)} (λ c. a_function.Map c.0 c.1.0 c.1.1.0 (record { kinds = c.1.1.1.0 }) c.1.1.1.1)
-    (λ c. plain (codes "map") ∷ name c.0 ∷ plain (codes "(") ∷ (some_comma_separated (map param_pieces c.1.0) ++ plain (codes ")") ∷ out_of c.1.1))
+Mapped = Made {C = Ident × (List Param × Tail)} (λ c. a_function.Map c.0 c.1.0 c.1.1.arrow c.1.1.out c.1.1.body)
+    (λ c. plain (codes "map") ∷ name c.0 ∷ plain (codes "(") ∷ ((some_comma_separated (map param_pieces c.1.0) ++ plain (codes ")") ∷ []) ++ tail_pieces c.1.1))
 
 -- a `map` is read right
 map_right : Right Mapped Free (expect (codes "map") >> map_function)
 unfolding map_function
-map_right = word_then (codes "map") (free_part (ident_right Free) (λ i. word_then (codes "(") (part params_right
-    (λ ps. word_then (codes ")") (out_right (λ arrow out body. a_function.Map i ps arrow (record { kinds = out }) body)))
-    (λ ps. mark_follows (λ c. a_function.Map i ps c.0 (record { kinds = c.1.0 }) c.1.1) out_of Free (codes ")") (codes ",") refl))))
+map_right = word_then (codes "map") (free_part {make = λ (c : Ident × (List Param × Tail)). a_function.Map c.0 c.1.0 c.1.1.arrow c.1.1.out c.1.1.body} (named_before (codes "(") Free)
+    (λ i. free_part {make = λ (c : List Param × Tail). a_function.Map i c.0 c.1.arrow c.1.out c.1.body} (unseen_before (codes ")") (λ ps. some_comma_separated (map param_pieces ps)) Free (separated param) (codes ",") refl params_right)
+    (λ ps. last_part (λ t. a_function.Map i ps t.arrow t.out t.body) tail_right)))
 
 -- a `reduce`
 abbrev Reduced : Spells Function
-Reduced = Made {C = Ident × (Param × (List Stream × Out))} (λ c. a_function.Reduce c.0 c.1.0 c.1.1.0 c.1.1.1.0 (record { kinds = c.1.1.1.1.0 }) c.1.1.1.1.1)
-    (λ c. plain (codes "reduce") ∷ name c.0 ∷ plain (codes "(") ∷ (param_pieces c.1.0 ++ plain (codes ";") ∷ (some_comma_separated (map stream_pieces c.1.1.0) ++ plain (codes ")") ∷ out_of c.1.1.1)))
+Reduced = Made {C = (Ident × Param) × (List Stream × Tail)} (λ c. a_function.Reduce c.0.0 c.0.1 c.1.0 c.1.1.arrow c.1.1.out c.1.1.body)
+    (λ c. plain (codes "reduce") ∷ (keyed_pieces (codes ";") c.0 ++ ((some_comma_separated (map stream_pieces c.1.0) ++ plain (codes ")") ∷ []) ++ tail_pieces c.1.1)))
 
 -- a `reduce` is read right
 reduce_right : Right Reduced Free (expect (codes "reduce") >> reduce_function)
 unfolding reduce_function
-reduce_right = word_then (codes "reduce") (free_part (ident_right Free) (λ i. word_then (codes "(") (free_part (param_right Free) (λ key. word_then (codes ";") (part streams_right
-    (λ ss. word_then (codes ")") (out_right (λ arrow out body. a_function.Reduce i key ss arrow (record { kinds = out }) body)))
-    (λ ss. mark_follows (λ c. a_function.Reduce i key ss c.0 (record { kinds = c.1.0 }) c.1.1) out_of Free (codes ")") (codes ",") refl))))))
+reduce_right = word_then (codes "reduce") (free_part {make = λ (c : (Ident × Param) × (List Stream × Tail)). a_function.Reduce c.0.0 c.0.1 c.1.0 c.1.1.arrow c.1.1.out c.1.1.body} (keyed_right (codes ";"))
+    (λ head. free_part {make = λ (c : List Stream × Tail). a_function.Reduce head.0 head.1 c.0 c.1.arrow c.1.out c.1.body} (unseen_before (codes ")") (λ ss. some_comma_separated (map stream_pieces ss)) Free (separated stream) (codes ",") refl streams_right)
+    (λ ss. last_part (λ t. a_function.Reduce head.0 head.1 ss t.arrow t.out t.body) tail_right)))
 
 -- a `distance`
 abbrev Measured : Spells Function
-Measured = Made {C = Ident × (Param × (Stream × (Stream × List Statement)))} (λ c. a_function.Distance c.0 c.1.0 c.1.1.0 c.1.1.1.0 c.1.1.1.1)
-    (λ c. plain (codes "distance") ∷ name c.0 ∷ plain (codes "(") ∷ (param_pieces c.1.0 ++ plain (codes ";") ∷ (stream_pieces c.1.1.0 ++ plain (codes ",") ∷ (stream_pieces c.1.1.1.0 ++ plain (codes ")") ∷ block_pieces 32 c.1.1.1.1))))
+Measured = Made {C = (Ident × Param) × (Stream × (Stream × List Statement))} (λ c. a_function.Distance c.0.0 c.0.1 c.1.0 c.1.1.0 c.1.1.1)
+    (λ c. plain (codes "distance") ∷ (keyed_pieces (codes ";") c.0 ++ ((stream_pieces c.1.0 ++ plain (codes ",") ∷ []) ++ ((stream_pieces c.1.1.0 ++ plain (codes ")") ∷ []) ++ block_pieces 32 c.1.1.1))))
 
 -- a `distance` is read right
 distance_right : Right Measured Free (expect (codes "distance") >> distance_function)
 unfolding distance_function
-distance_right = word_then (codes "distance") (free_part (ident_right Free) (λ i. word_then (codes "(") (free_part (param_right Free) (λ key. word_then (codes ";") (free_part (stream_right Free) (λ before. word_then (codes ",")
-    (free_part (stream_right Free) (λ after. word_then (codes ")") (last_part (λ body. a_function.Distance i key before after body) (block_right 32 Free))))))))))
+distance_right = word_then (codes "distance") (free_part {make = λ (c : (Ident × Param) × (Stream × (Stream × List Statement))). a_function.Distance c.0.0 c.0.1 c.1.0 c.1.1.0 c.1.1.1} (keyed_right (codes ";"))
+    (λ head. free_part {make = λ (c : Stream × (Stream × List Statement)). a_function.Distance head.0 head.1 c.0 c.1.0 c.1.1} (free_before (codes ",") stream_pieces Free stream (stream_right Free))
+    (λ old. free_part {make = λ (c : Stream × List Statement). a_function.Distance head.0 head.1 old c.0 c.1} (free_before (codes ")") stream_pieces Free stream (stream_right Free))
+    (λ new. last_part (λ body. a_function.Distance head.0 head.1 old new body) (block_right 32 Free)))))
 
 -- a `partition`
 abbrev Parted : Spells Function
-Parted = Made {C = Ident × (Param × List Statement)} (λ c. a_function.Partition c.0 c.1.0 c.1.1)
-    (λ c. plain (codes "partition") ∷ name c.0 ∷ plain (codes "(") ∷ (param_pieces c.1.0 ++ plain (codes ")") ∷ block_pieces 32 c.1.1))
+Parted = Made {C = (Ident × Param) × List Statement} (λ c. a_function.Partition c.0.0 c.0.1 c.1)
+    (λ c. plain (codes "partition") ∷ (keyed_pieces (codes ")") c.0 ++ block_pieces 32 c.1))
 
 -- a `partition` is read right
 partition_right : Right Parted Free (expect (codes "partition") >> partition_function)
 unfolding partition_function
-partition_right = word_then (codes "partition") (free_part (ident_right Free) (λ i. word_then (codes "(") (free_part (param_right Free) (λ key. word_then (codes ")") (last_part (λ body. a_function.Partition i key body) (block_right 32 Free))))))
+partition_right = word_then (codes "partition") (free_part {make = λ (c : (Ident × Param) × List Statement). a_function.Partition c.0.0 c.0.1 c.1} (keyed_right (codes ")"))
+    (λ head. last_part (λ body. a_function.Partition head.0 head.1 body) (block_right 32 Free)))
 
 -- ---- the choice between them
 
@@ -139,55 +151,40 @@ chosen_right =
 
 -- ---- as functions are spelled
 
--- what stands between parentheses, and what stands behind them
-closed_before : (inner others : List Piece) → in_parentheses inner ++ others ≡ plain (codes "(") ∷ (inner ++ plain (codes ")") ∷ others)
-closed_before inner others = ap (◌∷◌ (plain (codes "("))) (append_assoc inner (plain (codes ")") ∷ []) others)
+-- a part, a mark and another part with the mark behind it, before others: each part with its own mark
+regrouped : (one : List Piece) (mark : List ℕ) (next : List Piece) (close : List ℕ) (others : List Piece)
+    → ((one ++ plain mark ∷ next) ++ plain close ∷ []) ++ others ≡ (one ++ plain mark ∷ []) ++ ((next ++ plain close ∷ []) ++ others)
+regrouped one mark next close others =
+    append_assoc (one ++ plain mark ∷ next) (plain close ∷ []) others
+    ∙ append_assoc one (plain mark ∷ next) (plain close ∷ others)
+    ∙ ap (λ pieces. one ++ (plain mark ∷ pieces)) (sym (append_assoc next (plain close ∷ []) others))
+    ∙ sym (append_assoc one (plain mark ∷ []) ((next ++ plain close ∷ []) ++ others))
 
--- a `map`, one place after another
-map_spelled : (i : Ident) (ps : List Param) (arrow : ℕ) (out : Row) (body : List Statement) → function_pieces (a_function.Map i ps arrow out body)
-    ≡ plain (codes "map") ∷ name i ∷ plain (codes "(") ∷ (some_comma_separated (map param_pieces ps) ++ plain (codes ")") ∷ out_pieces arrow out body)
-map_spelled i ps arrow out body = ap (λ pieces. plain (codes "map") ∷ name i ∷ pieces) (closed_before (some_comma_separated (map param_pieces ps)) (out_pieces arrow out body))
-
--- a `reduce`, one place after another
+-- a `reduce`, as its reader takes it apart
 reduce_spelled : (i : Ident) (key : Param) (ss : List Stream) (arrow : ℕ) (out : Row) (body : List Statement) → function_pieces (a_function.Reduce i key ss arrow out body)
-    ≡ plain (codes "reduce") ∷ name i ∷ plain (codes "(") ∷ (param_pieces key ++ plain (codes ";") ∷ (some_comma_separated (map stream_pieces ss) ++ plain (codes ")") ∷ out_pieces arrow out body))
-reduce_spelled i key ss arrow out body =
-    let streams = some_comma_separated (map stream_pieces ss) in
-    let others = out_pieces arrow out body in
-    ap (λ pieces. plain (codes "reduce") ∷ name i ∷ pieces) (
-    closed_before (param_pieces key ++ plain (codes ";") ∷ streams) others
-    ∙ ap (◌∷◌ (plain (codes "("))) (append_assoc (param_pieces key) (plain (codes ";") ∷ streams) (plain (codes ")") ∷ others)))
+    ≡ plain (codes "reduce") ∷ (keyed_pieces (codes ";") (i, key) ++ ((some_comma_separated (map stream_pieces ss) ++ plain (codes ")") ∷ []) ++ out_pieces arrow out body))
+reduce_spelled i key ss arrow out body = ap (λ pieces. plain (codes "reduce") ∷ name i ∷ plain (codes "(") ∷ pieces) (regrouped (param_pieces key) (codes ";") (some_comma_separated (map stream_pieces ss)) (codes ")") (out_pieces arrow out body))
 
--- a `distance`, one place after another
-distance_spelled : (i : Ident) (key : Param) (before after : Stream) (body : List Statement) → function_pieces (a_function.Distance i key before after body)
-    ≡ plain (codes "distance") ∷ name i ∷ plain (codes "(") ∷ (param_pieces key ++ plain (codes ";") ∷ (stream_pieces before ++ plain (codes ",") ∷ (stream_pieces after ++ plain (codes ")") ∷ block_pieces 32 body)))
-distance_spelled i key before after body =
-    let others = plain (codes ")") ∷ block_pieces 32 body in
-    ap (λ pieces. plain (codes "distance") ∷ name i ∷ pieces) (
-    closed_before (param_pieces key ++ plain (codes ";") ∷ stream_pieces before ++ plain (codes ",") ∷ stream_pieces after) (block_pieces 32 body)
-    ∙ ap (◌∷◌ (plain (codes "("))) (
-    append_assoc (param_pieces key ++ plain (codes ";") ∷ stream_pieces before) (plain (codes ",") ∷ stream_pieces after) others
-    ∙ append_assoc (param_pieces key) (plain (codes ";") ∷ stream_pieces before) (plain (codes ",") ∷ (stream_pieces after ++ others))))
-
--- a `partition`, one place after another
-partition_spelled : (i : Ident) (key : Param) (body : List Statement) → function_pieces (a_function.Partition i key body)
-    ≡ plain (codes "partition") ∷ name i ∷ plain (codes "(") ∷ (param_pieces key ++ plain (codes ")") ∷ block_pieces 32 body)
-partition_spelled i key body = ap (λ pieces. plain (codes "partition") ∷ name i ∷ pieces) (closed_before (param_pieces key) (block_pieces 32 body))
+-- a `distance`, as its reader takes it apart
+distance_spelled : (i : Ident) (key : Param) (old new : Stream) (body : List Statement) → function_pieces (a_function.Distance i key old new body)
+    ≡ plain (codes "distance") ∷ (keyed_pieces (codes ";") (i, key) ++ ((stream_pieces old ++ plain (codes ",") ∷ []) ++ ((stream_pieces new ++ plain (codes ")") ∷ []) ++ block_pieces 32 body)))
+distance_spelled i key old new body = ap (λ pieces. plain (codes "distance") ∷ name i ∷ plain (codes "(") ∷ pieces) (
+    regrouped (param_pieces key ++ plain (codes ";") ∷ stream_pieces old) (codes ",") (stream_pieces new) (codes ")") (block_pieces 32 body)
+    ∙ regrouped (param_pieces key) (codes ";") (stream_pieces old) (codes ",") ((stream_pieces new ++ plain (codes ")") ∷ []) ++ block_pieces 32 body))
 
 -- one of the kinds of functions is a function
 function_to : (f : Function) (pieces : List Piece) → Functions f pieces → pieces ≡ function_pieces f
-function_to f pieces (inl m) = m.as_parts ∙ sym (map_spelled m.parts.0 m.parts.1.0 m.parts.1.1.0 (record { kinds = m.parts.1.1.1.0 }) m.parts.1.1.1.1) ∙ ap function_pieces (sym m.made)
-function_to f pieces (inr (inl m)) =
-    m.as_parts ∙ sym (reduce_spelled m.parts.0 m.parts.1.0 m.parts.1.1.0 m.parts.1.1.1.0 (record { kinds = m.parts.1.1.1.1.0 }) m.parts.1.1.1.1.1) ∙ ap function_pieces (sym m.made)
-function_to f pieces (inr (inr (inl m))) = m.as_parts ∙ sym (distance_spelled m.parts.0 m.parts.1.0 m.parts.1.1.0 m.parts.1.1.1.0 m.parts.1.1.1.1) ∙ ap function_pieces (sym m.made)
-function_to f pieces (inr (inr (inr m))) = m.as_parts ∙ sym (partition_spelled m.parts.0 m.parts.1.0 m.parts.1.1) ∙ ap function_pieces (sym m.made)
+function_to f pieces (inl m) = m.as_parts ∙ ap function_pieces (sym m.made)
+function_to f pieces (inr (inl m)) = m.as_parts ∙ sym (reduce_spelled m.parts.0.0 m.parts.0.1 m.parts.1.0 m.parts.1.1.arrow m.parts.1.1.out m.parts.1.1.body) ∙ ap function_pieces (sym m.made)
+function_to f pieces (inr (inr (inl m))) = m.as_parts ∙ sym (distance_spelled m.parts.0.0 m.parts.0.1 m.parts.1.0 m.parts.1.1.0 m.parts.1.1.1) ∙ ap function_pieces (sym m.made)
+function_to f pieces (inr (inr (inr m))) = m.as_parts ∙ ap function_pieces (sym m.made)
 
 -- a function is one of the kinds of functions
 function_from : (f : Function) (pieces : List Piece) → pieces ≡ function_pieces f → Functions f pieces
-function_from (a_function.Map i ps arrow out body) pieces e = inl (record { parts = (i, (ps, (arrow, (out.kinds, body)))); made = refl; as_parts = e ∙ map_spelled i ps arrow out body })
-function_from (a_function.Reduce i key ss arrow out body) pieces e = inr (inl (record { parts = (i, (key, (ss, (arrow, (out.kinds, body))))); made = refl; as_parts = e ∙ reduce_spelled i key ss arrow out body }))
-function_from (a_function.Distance i key before after body) pieces e = inr (inr (inl (record { parts = (i, (key, (before, (after, body)))); made = refl; as_parts = e ∙ distance_spelled i key before after body })))
-function_from (a_function.Partition i key body) pieces e = inr (inr (inr (record { parts = (i, (key, body)); made = refl; as_parts = e ∙ partition_spelled i key body })))
+function_from (a_function.Map i ps arrow out body) pieces e = inl (record { parts = (i, (ps, record { arrow = arrow; out = out; body = body })); made = refl; as_parts = e })
+function_from (a_function.Reduce i key ss arrow out body) pieces e = inr (inl (record { parts = ((i, key), (ss, record { arrow = arrow; out = out; body = body })); made = refl; as_parts = e ∙ reduce_spelled i key ss arrow out body }))
+function_from (a_function.Distance i key old new body) pieces e = inr (inr (inl (record { parts = ((i, key), (old, (new, body))); made = refl; as_parts = e ∙ distance_spelled i key old new body })))
+function_from (a_function.Partition i key body) pieces e = inr (inr (inr (record { parts = ((i, key), body); made = refl; as_parts = e })))
 
 -- a function
 pub function_right : Right (Exactly function_pieces) Free function

@@ -6,7 +6,7 @@ use Rattle.program_tokens.specs.steps.Front.{later, line_of, sees}
 use Rattle.program_tokens.specs.declared.token.Token.{Token}
 use Rattle.program_tokens.specs.steps.Parsers.{Outcome, Parser, and_then, eat, expect, expect_line, ident, pure, ◌>>=◌, ◌>>◌}
 use Rattle.program_tokens.specs.Pieces.{Piece, name, placed, plain, comma_separated}
-use Rattle.function_language.specs.steps.Reading.{binding, block, emit_statement, expr, for_statement, give_statement, if_statement, result_statement, statement_of}
+use Rattle.function_language.specs.steps.Reading.{binding, block, emit_statement, enclosed, expr, for_statement, give_statement, if_statement, other, result_statement, statement_of}
 use Rattle.function_language.specs.steps.SpelledLists.{for_pieces, if_pieces, other_pieces}
 use Rattle.function_language.specs.Spelled.{block_of, block_pieces, else_pieces, expr_pieces, idents_pieces, row_pieces, statement_pieces}
 use Rattle.program_tokens.specs.Pieces.{in_parentheses}
@@ -19,9 +19,11 @@ use Rattle.program_tokens.proofs.Right.{Exactly, Right, RightAt, Spells, Stops, 
 use Rattle.program_tokens.proofs.Choices.{Either, choose_at}
 use Rattle.program_tokens.proofs.Firsts.{Begins, Free, Heads, Unfilled, begins_follows, either_begins, refuse_right}
 use Rattle.program_tokens.proofs.OneToken.{expect_line_right, ident_right}
-use Rattle.program_tokens.proofs.Parts.{Made, as_made, exactly, free_part, last_part, last_word, made_begins, nothing_follows, part, pure_made, word_then}
-use Rattle.program_tokens.proofs.Avoiding.{Avoids, Unseen, eat_right, mark_follows, name_avoids, placed_avoids, plain_avoids, refused_unseen_line}
+use Rattle.program_tokens.proofs.Parts.{Made, as_made, exactly, free_part, last_part, last_word, made_begins, nothing_follows, pure_made, remade, word_then}
+use Rattle.program_tokens.proofs.Avoiding.{Avoids, Unseen, eat_right, name_avoids, placed_avoids, plain_avoids, refused_unseen_line}
 use Rattle.program_tokens.proofs.Many.{block_from_right, closed_right}
+use Rattle.function_language.proofs.Before.{unseen_before}
+use Rattle.function_language.proofs.GrammarSignatures.{named_before}
 use Rattle.function_language.proofs.GrammarExpressions.{expr_first, expr_right}
 
 -- ---- rows and lists
@@ -89,7 +91,7 @@ module _ (depth : ℕ) (value : Parser Expr) (block : Parser (List Statement)) (
     (block_free : Right (Exactly (block_pieces depth)) Free block) where
   -- what `let` and `set` have in common
   abbrev Bound : List ℕ → (Ident → Expr → Statement) → Spells Statement
-  Bound word made = Made {C = Ident × (Expr × Unit {0})} (λ c. made c.0 c.1.0) (λ c. plain word ∷ name c.0 ∷ plain (codes "=") ∷ expr_pieces depth c.1.0 ++ plain (codes ";") ∷ [])
+  Bound word made = Made {C = Ident × Expr} (λ c. made c.0 c.1) (λ c. plain word ∷ name c.0 ∷ plain (codes "=") ∷ expr_pieces depth c.1 ++ plain (codes ";") ∷ [])
 
   -- the mark that ends a statement
   semicolon : (s : Statement) → Right (Made {C = Unit {0}} (λ _. s) (λ _. plain (codes ";") ∷ [])) NoElse (expect (codes ";") >> pure s)
@@ -98,51 +100,62 @@ module _ (depth : ℕ) (value : Parser Expr) (block : Parser (List Statement)) (
   -- `let` or `set`
   binding_right : (word : List ℕ) (made : Ident → Expr → Statement) → Right (Bound word made) NoElse (expect word >> binding value made)
   unfolding binding
-  binding_right word made = word_then word (free_part (ident_right Free) (λ i. word_then (codes "=") (part value_right (λ e. semicolon (made i e)) (λ e. mark_follows (λ _. made i e) (λ _. []) NoElse (codes ";") (codes "(") refl))))
+  binding_right word made = word_then word (free_part (named_before (codes "=") Free) (λ i. last_part (λ e. made i e) (unseen_before (codes ";") (expr_pieces depth) NoElse value (codes "(") refl value_right)))
+
+  -- an expression between parentheses
+  enclosed_right : (stops : Stops) → Right (Exactly (λ e. in_parentheses (expr_pieces depth e))) stops (enclosed value)
+  unfolding enclosed
+  enclosed_right stops = exactly (λ e. in_parentheses (expr_pieces depth e)) (λ e. e) (λ e. refl) (λ e. refl)
+      (word_then (codes "(") (as_made (unseen_before (codes ")") (expr_pieces depth) stops value (codes "(") refl value_right)))
 
   -- an `if`
   abbrev Chosen : Spells Statement
   Chosen = Made {C = Expr × (List Statement × Option (List Statement))} (λ c. a_statement.If c.0 c.1.0 c.1.1) (λ c. if_pieces depth c.0 c.1.0 c.1.1)
 
-  -- what stands behind the block of an `if`: `else`
-  abbrev WithElse : Expr → List Statement → Spells Statement
-  WithElse test chosen = Made (λ other. a_statement.If test chosen (Some other)) (λ other. plain (codes "else") ∷ block_pieces depth other)
+  -- what stands behind the block of an `if`: `else` and a block
+  abbrev WithElse : Spells (Option (List Statement))
+  WithElse = Made Some (λ found. plain (codes "else") ∷ block_pieces depth found)
 
   -- or nothing
-  abbrev WithoutElse : Expr → List Statement → Spells Statement
-  WithoutElse test chosen = Made {C = Unit {0}} (λ _. a_statement.If test chosen None) (λ _. [])
+  abbrev WithoutElse : Spells (Option (List Statement))
+  WithoutElse = Made {C = Unit {0}} (λ _. None) (λ _. [])
 
-  -- either
-  abbrev Others : Expr → List Statement → Spells Statement
-  Others test chosen = Made (λ other. a_statement.If test chosen other) (other_pieces depth)
+  -- with or without `else`, it is spelled so
+  other_to : (o : Option (List Statement)) (pieces : List Piece) → Either WithElse WithoutElse o pieces → pieces ≡ other_pieces depth o
+  other_to o pieces (inl m) = m.as_parts ∙ ap (other_pieces depth) (sym m.made)
+  other_to o pieces (inr m) = m.as_parts ∙ ap (other_pieces depth) (sym m.made)
 
-  -- with or without `else` is either
-  others_to : (test : Expr) (chosen : List Statement) (s : Statement) (pieces : List Piece) → Either (WithElse test chosen) (WithoutElse test chosen) s pieces → Others test chosen s pieces
-  others_to test chosen s pieces (inl m) = record { parts = Some m.parts; made = m.made; as_parts = m.as_parts }
-  others_to test chosen s pieces (inr m) = record { parts = None; made = m.made; as_parts = m.as_parts }
+  -- what is spelled so is with or without `else`
+  other_from : (o : Option (List Statement)) (pieces : List Piece) → pieces ≡ other_pieces depth o → Either WithElse WithoutElse o pieces
+  other_from None pieces e = inr (record { parts = tt; made = refl; as_parts = e })
+  other_from (Some found) pieces e = inl (record { parts = found; made = refl; as_parts = e })
 
-  -- either is with or without `else`
-  others_parts : (test : Expr) (chosen : List Statement) (s : Statement) (pieces : List Piece) (other : Option (List Statement)) → s ≡ a_statement.If test chosen other → pieces ≡ other_pieces depth other
-      → Either (WithElse test chosen) (WithoutElse test chosen) s pieces
-  others_parts test chosen s pieces None e f = inr (record { parts = tt; made = e; as_parts = f })
-  others_parts test chosen s pieces (Some other) e f = inl (record { parts = other; made = e; as_parts = f })
-
-  -- what stands behind the block of an `if` is read right
-  else_right : (test : Expr) (chosen : List Statement) → Right (Others test chosen) NoElse
-      (eat (codes "else") >>= λ has_other. cond has_other (block >>= λ other. pure (a_statement.If test chosen (Some other))) (pure (a_statement.If test chosen None)))
-  else_right test chosen ts = respelled (others_to test chosen) (λ s pieces m. others_parts test chosen s pieces m.parts m.made m.as_parts)
-      (eat_right (codes "else") {one = WithElse test chosen} {other = WithoutElse test chosen} (block >>= λ other. pure (a_statement.If test chosen (Some other))) (pure (a_statement.If test chosen None))
-      (word_then (codes "else") (last_part (λ other. a_statement.If test chosen (Some other)) block_right))
-      (pure_made {C = Unit {0}} (λ _. a_statement.If test chosen None) (λ _. []) NoElse tt (λ _. refl) (λ _. refl))
-      (nothing_follows (λ _. a_statement.If test chosen None) NoElse NoElse (λ rest stop. stop))
+  -- it is read right
+  other_right : Right (Exactly (other_pieces depth)) NoElse (other block)
+  unfolding other
+  other_right ts = respelled other_to other_from
+      (eat_right (codes "else") {one = WithElse} {other = WithoutElse} (block >>= λ found. pure (Some found)) (pure None)
+      (word_then (codes "else") (last_part Some block_right))
+      (pure_made {C = Unit {0}} (λ _. None) (λ _. []) NoElse tt (λ _. refl) (λ _. refl))
+      (nothing_follows (λ _. None) NoElse NoElse (λ rest stop. stop))
       ts)
+
+  -- an `if`, with its test between parentheses
+  abbrev Tested : Spells Statement
+  Tested = Made {C = Expr × (List Statement × Option (List Statement))} (λ c. a_statement.If c.0 c.1.0 c.1.1) (λ c. plain (codes "if") ∷ (in_parentheses (expr_pieces depth c.0) ++ (block_pieces depth c.1.0 ++ other_pieces depth c.1.1)))
+
+  -- it is read right
+  tested_right : Right Tested NoElse (expect (codes "if") >> if_statement value block)
+  unfolding if_statement
+  tested_right = word_then (codes "if") (free_part {make = λ c. a_statement.If c.0 c.1.0 c.1.1} (enclosed_right Free) (λ test. free_part {make = λ c. a_statement.If test c.0 c.1} block_free (λ chosen. last_part (λ rest. a_statement.If test chosen rest) other_right)))
+
+  -- it is an `if`
+  tested_pieces : (c : Expr × (List Statement × Option (List Statement))) → plain (codes "if") ∷ (in_parentheses (expr_pieces depth c.0) ++ (block_pieces depth c.1.0 ++ other_pieces depth c.1.1)) ≡ if_pieces depth c.0 c.1.0 c.1.1
+  tested_pieces c = ap (λ pieces. plain (codes "if") ∷ plain (codes "(") ∷ pieces) (append_assoc (expr_pieces depth c.0) (plain (codes ")") ∷ []) (block_pieces depth c.1.0 ++ other_pieces depth c.1.1))
 
   -- an `if` is read right
   if_right : Right Chosen NoElse (expect (codes "if") >> if_statement value block)
-  unfolding if_statement
-  if_right = word_then (codes "if") (word_then (codes "(") (part value_right
-      (λ test. word_then (codes ")") (free_part {make = λ c. a_statement.If test c.0 c.1} block_free (λ chosen. else_right test chosen)))
-      (λ test. mark_follows (λ c. a_statement.If test c.0 c.1) (λ c. block_pieces depth c.0 ++ other_pieces depth c.1) NoElse (codes ")") (codes "(") refl)))
+  if_right = remade {C = Expr × (List Statement × Option (List Statement))} (λ c. a_statement.If c.0 c.1.0 c.1.1) (λ c. if_pieces depth c.0 c.1.0 c.1.1) (λ c. c) (λ c. c) (λ c. refl) tested_pieces (λ c. refl) (λ c. sym (tested_pieces c)) tested_right
 
   -- a `for`
   abbrev Looped : Spells Statement
@@ -168,14 +181,12 @@ module _ (depth : ℕ) (value : Parser Expr) (block : Parser (List Statement)) (
 
   -- a `give`
   abbrev Given : Spells Statement
-  Given = Made {C = ℕ × (Expr × Unit {0})} (λ c. Give c.0 c.1.0) (λ c. placed (codes "give") c.0 ∷ plain (codes "(") ∷ expr_pieces depth c.1.0 ++ plain (codes ")") ∷ plain (codes ";") ∷ [])
+  Given = Made {C = ℕ × (Expr × Unit {0})} (λ c. Give c.0 c.1.0) (λ c. placed (codes "give") c.0 ∷ in_parentheses (expr_pieces depth c.1.0) ++ plain (codes ";") ∷ [])
 
   -- a `give` is read right
   give_right : Right Given NoElse (expect_line (codes "give") >>= give_statement value)
   unfolding give_statement
-  give_right = free_part {make = λ (c : ℕ × (Expr × Unit {0})). Give c.0 c.1.0} (expect_line_right (codes "give") Free) (λ line. word_then (codes "(") (part value_right
-      (λ e. word_then (codes ")") (semicolon (Give line e)))
-      (λ e. mark_follows (λ _. Give line e) (λ _. plain (codes ";") ∷ []) NoElse (codes ")") (codes "(") refl)))
+  give_right = free_part {make = λ (c : ℕ × (Expr × Unit {0})). Give c.0 c.1.0} (expect_line_right (codes "give") Free) (λ line. free_part (enclosed_right Free) (λ e. semicolon (Give line e)))
 
   -- ---- the choice between them
 
@@ -251,14 +262,10 @@ module _ (depth : ℕ) (value : Parser Expr) (block : Parser (List Statement)) (
 
   -- ---- as statements are spelled
 
-  -- a `give` is spelled as a statement
-  give_spelled : (line : ℕ) (e : Expr) → placed (codes "give") line ∷ plain (codes "(") ∷ expr_pieces depth e ++ plain (codes ")") ∷ plain (codes ";") ∷ [] ≡ statement_pieces depth (Give line e)
-  give_spelled line e = ap (λ pieces. placed (codes "give") line ∷ plain (codes "(") ∷ pieces) (sym (append_assoc (expr_pieces depth e) (plain (codes ")") ∷ []) (plain (codes ";") ∷ [])))
-
   -- an `emit` or a `give` is a statement
   results_to : (s : Statement) (pieces : List Piece) → Results s pieces → pieces ≡ statement_pieces depth s
   results_to s pieces (inl m) = m.as_parts ∙ ap (statement_pieces depth) (sym m.made)
-  results_to s pieces (inr m) = m.as_parts ∙ give_spelled m.parts.0 m.parts.1.0 ∙ ap (statement_pieces depth) (sym m.made)
+  results_to s pieces (inr m) = m.as_parts ∙ ap (statement_pieces depth) (sym m.made)
 
   -- or a `for`
   from_for_to : (s : Statement) (pieces : List Piece) → FromFor s pieces → pieces ≡ statement_pieces depth s
@@ -282,14 +289,14 @@ module _ (depth : ℕ) (value : Parser Expr) (block : Parser (List Statement)) (
 
   -- a statement is one of the kinds of statements
   statement_from : (s : Statement) (pieces : List Piece) → pieces ≡ statement_pieces depth s → Statements s pieces
-  statement_from (Let i e) pieces f = inl (record { parts = (i, (e, tt)); made = refl; as_parts = f })
-  statement_from (Set i e) pieces f = inr (inl (record { parts = (i, (e, tt)); made = refl; as_parts = f }))
+  statement_from (Let i e) pieces f = inl (record { parts = (i, e); made = refl; as_parts = f })
+  statement_from (Set i e) pieces f = inr (inl (record { parts = (i, e); made = refl; as_parts = f }))
   statement_from (If' test shape row other) pieces f =
       inr (inr (inl (record { parts = (test, (items-the_row-Statement _ row, else_of other)); made = if_of_row test shape row other; as_parts = f ∙ if_row depth test shape row other })))
   statement_from (For' idents stream shape row) pieces f =
       inr (inr (inr (inl (record { parts = (idents, (stream, items-the_row-Statement _ row)); made = for_of_row idents stream shape row; as_parts = f ∙ for_row depth idents stream shape row }))))
   statement_from (Emit line args) pieces f = inr (inr (inr (inr (inl (record { parts = (line, (args, tt)); made = refl; as_parts = f })))))
-  statement_from (Give line e) pieces f = inr (inr (inr (inr (inr (record { parts = (line, (e, tt)); made = refl; as_parts = f ∙ sym (give_spelled line e) })))))
+  statement_from (Give line e) pieces f = inr (inr (inr (inr (inr (record { parts = (line, (e, tt)); made = refl; as_parts = f })))))
 
   -- a statement, where its expressions and blocks are read right
   statement_right_of : Right (Exactly (statement_pieces depth)) NoElse (statement_of value block)

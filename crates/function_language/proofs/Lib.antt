@@ -1,3 +1,4 @@
+pub mod Before
 pub mod Ended
 pub mod GrammarExpressions
 pub mod GrammarFunctions

@@ -10,7 +10,7 @@ use std::alloc::Global;
 
 /// Reads an expression in which so many calls may still open.
 #[cycle(expression)]
-pub(crate) fn expr(alloc: Global, tokens: &mut Tokens, depth: u32) -> Result<Expr, SyntaxFault>
+fn expr(alloc: Global, tokens: &mut Tokens, depth: u32) -> Result<Expr, SyntaxFault>
     ensures { Reads (reading.expr depth tokens.old) result tokens.new }
 {
     if let Some(found) = literal(alloc, tokens)? {
@@ -75,6 +75,30 @@ fn some_arguments(alloc: Global, tokens: &mut Tokens, depth: u32) -> Result<Expr
             return Ok(args);
         }
     }
+}
+
+/// Reads an expression and the word or mark behind it.
+#[tactic(auto, unfolding(crate::specs::steps::Reading::before))]
+pub(crate) fn expr_before(
+    alloc: Global,
+    tokens: &mut Tokens,
+    depth: u32,
+    word: &[u8],
+) -> Result<Expr, SyntaxFault>
+    ensures { Reads (reading.before word.now (reading.expr depth) tokens.old) result tokens.new }
+{
+    let found = expr(alloc, tokens, depth)?;
+    expect(alloc, tokens, word)?;
+    Ok(found)
+}
+
+/// Reads an expression between parentheses.
+#[tactic(auto, unfolding(crate::specs::steps::Reading::enclosed))]
+pub(crate) fn enclosed(alloc: Global, tokens: &mut Tokens, depth: u32) -> Result<Expr, SyntaxFault>
+    ensures { Reads (reading.enclosed (reading.expr depth) tokens.old) result tokens.new }
+{
+    expect(alloc, tokens, b"(")?;
+    expr_before(alloc, tokens, depth, b")")
 }
 
 /// Takes a number, a text or `round`, if one comes next.

@@ -2,18 +2,25 @@ ghost use Rattle.std.specs.Prelude.{◌≡◌};
 ghost use Rattle.program_tokens.specs.steps.Parsers.{Reads};
 ghost use Rattle.function_language.specs.steps.Reading as reading;
 
-use crate::signature::{param, stream};
+use crate::signature::{before, listed};
 use crate::statement::block;
-use crate::tree::{Function, Row, Tree};
+use crate::tree::{Block, Function, Param, Row, Tree};
 use program_tokens::{
-    Item, Repeated, SyntaxFault, Tokens, eat, expect, expect_line, ident, kinds, read_repeated,
-    separated,
+    Ident, Item, Repeated, SyntaxFault, Tokens, eat, expect, expect_line, kinds, read_repeated,
 };
 use sqlite_items::Items;
 use std::alloc::Global;
 
 /// How many blocks and calls may be open at once. docs/LANGUAGE.md, "Functions".
 pub const DEPTH: u32 = 32;
+
+/// What a function emits, behind an arrow in this line, and its body.
+#[derive(Drop)]
+struct Tail {
+    arrow: u64,
+    out: Row,
+    body: Block,
+}
 
 /// Reads functions as long as one comes next. docs/LANGUAGE.md, "Functions".
 #[tactic(auto, using(crate::proofs::Places::read_spelled))]
@@ -73,18 +80,14 @@ fn function(alloc: Global, tokens: &mut Tokens) -> Result<Function, SyntaxFault>
 fn map_function(alloc: Global, tokens: &mut Tokens) -> Result<Function, SyntaxFault>
     ensures { Reads (reading.map_function tokens.old) result tokens.new }
 {
-    let name = ident(alloc, tokens)?;
-    expect(alloc, tokens, b"(")?;
-    let params = separated(alloc, tokens)?;
-    expect(alloc, tokens, b")")?;
-    let arrow = expect_line(alloc, tokens, b"->")?;
-    let kinds = kinds(alloc, tokens)?;
-    let body = block(alloc, tokens, DEPTH)?;
+    let name = before(alloc, tokens, b"(")?;
+    let params = listed(alloc, tokens)?;
+    let Tail { arrow, out, body } = read_tail(alloc, tokens)?;
     Ok(Function::Map {
         name,
         params,
         arrow,
-        out: Row { kinds },
+        out,
         body,
     })
 }
@@ -94,21 +97,15 @@ fn map_function(alloc: Global, tokens: &mut Tokens) -> Result<Function, SyntaxFa
 fn reduce_function(alloc: Global, tokens: &mut Tokens) -> Result<Function, SyntaxFault>
     ensures { Reads (reading.reduce_function tokens.old) result tokens.new }
 {
-    let name = ident(alloc, tokens)?;
-    expect(alloc, tokens, b"(")?;
-    let key = param(alloc, tokens)?;
-    expect(alloc, tokens, b";")?;
-    let streams = separated(alloc, tokens)?;
-    expect(alloc, tokens, b")")?;
-    let arrow = expect_line(alloc, tokens, b"->")?;
-    let kinds = kinds(alloc, tokens)?;
-    let body = block(alloc, tokens, DEPTH)?;
+    let (name, key) = keyed(alloc, tokens, b";")?;
+    let streams = listed(alloc, tokens)?;
+    let Tail { arrow, out, body } = read_tail(alloc, tokens)?;
     Ok(Function::Reduce {
         name,
         key,
         streams,
         arrow,
-        out: Row { kinds },
+        out,
         body,
     })
 }
@@ -118,20 +115,15 @@ fn reduce_function(alloc: Global, tokens: &mut Tokens) -> Result<Function, Synta
 fn distance_function(alloc: Global, tokens: &mut Tokens) -> Result<Function, SyntaxFault>
     ensures { Reads (reading.distance_function tokens.old) result tokens.new }
 {
-    let name = ident(alloc, tokens)?;
-    expect(alloc, tokens, b"(")?;
-    let key = param(alloc, tokens)?;
-    expect(alloc, tokens, b";")?;
-    let before = stream(alloc, tokens)?;
-    expect(alloc, tokens, b",")?;
-    let after = stream(alloc, tokens)?;
-    expect(alloc, tokens, b")")?;
+    let (name, key) = keyed(alloc, tokens, b";")?;
+    let old = before(alloc, tokens, b",")?;
+    let new = before(alloc, tokens, b")")?;
     let body = block(alloc, tokens, DEPTH)?;
     Ok(Function::Distance {
         name,
         key,
-        before,
-        after,
+        before: old,
+        after: new,
         body,
     })
 }
@@ -141,10 +133,32 @@ fn distance_function(alloc: Global, tokens: &mut Tokens) -> Result<Function, Syn
 fn partition_function(alloc: Global, tokens: &mut Tokens) -> Result<Function, SyntaxFault>
     ensures { Reads (reading.partition_function tokens.old) result tokens.new }
 {
-    let name = ident(alloc, tokens)?;
-    expect(alloc, tokens, b"(")?;
-    let key = param(alloc, tokens)?;
-    expect(alloc, tokens, b")")?;
+    let (name, key) = keyed(alloc, tokens, b")")?;
     let body = block(alloc, tokens, DEPTH)?;
     Ok(Function::Partition { name, key, body })
+}
+
+/// Reads the name of a function and its key, and the mark behind this.
+#[tactic(auto, unfolding(crate::specs::steps::Reading::keyed))]
+fn keyed(alloc: Global, tokens: &mut Tokens, mark: &[u8]) -> Result<(Ident, Param), SyntaxFault>
+    ensures { Reads (reading.keyed mark.now tokens.old) result tokens.new }
+{
+    let name = before(alloc, tokens, b"(")?;
+    let key = before(alloc, tokens, mark)?;
+    Ok((name, key))
+}
+
+/// Reads what a function emits, and its body.
+#[tactic(auto, unfolding(crate::specs::steps::Reading::tail))]
+fn read_tail(alloc: Global, tokens: &mut Tokens) -> Result<Tail, SyntaxFault>
+    ensures { Reads (reading.tail tokens.old) result tokens.new }
+{
+    let arrow = expect_line(alloc, tokens, b"->")?;
+    let kinds = kinds(alloc, tokens)?;
+    let body = block(alloc, tokens, DEPTH)?;
+    Ok(Tail {
+        arrow,
+        out: Row { kinds },
+        body,
+    })
 }

@@ -1,10 +1,11 @@
-// What the heads of functions are made of: parameters and streams.
-ghost use Rattle.std.specs.Prelude.{◌≡◌, ◌<◌, length, OnOk};
-ghost use Rattle.program_tokens.specs.steps.Parsers.{Reads};
+// What the heads of functions are made of: parameters and streams, and what stands before a mark.
+ghost use Rattle.std.specs.Prelude.{◌≡◌, ◌<◌, codes, length, OnOk};
+ghost use Rattle.program_tokens.specs.steps.Parsers.{Reads, separated};
 ghost use Rattle.function_language.specs.steps.Reading as reading;
 
 use crate::tree::{Param, Stream};
-use program_tokens::{Item, SyntaxFault, Tokens, expect, ident, kind, kinds};
+use program_tokens::{Item, SyntaxFault, Tokens, expect, kind, kinds, separated};
+use sqlite_items::Items;
 use std::alloc::Global;
 
 impl Item for Param {
@@ -29,13 +30,36 @@ impl Item for Stream {
     }
 }
 
+/// Reads an item and the word or mark behind it.
+#[tactic(auto, unfolding(crate::specs::steps::Reading::before))]
+pub(crate) fn before<T: Item>(
+    alloc: Global,
+    tokens: &mut Tokens,
+    word: &[u8],
+) -> Result<T, SyntaxFault>
+    ensures { Reads (reading.before word.now T.reader tokens.old) result tokens.new }
+{
+    let found = T::read(alloc, tokens)?;
+    expect(alloc, tokens, word)?;
+    Ok(found)
+}
+
+/// Reads one item or more, with commas between, and the `)` behind them.
+#[tactic(auto, unfolding(crate::specs::steps::Reading::before))]
+pub(crate) fn listed<T: Item>(alloc: Global, tokens: &mut Tokens) -> Result<Items<T>, SyntaxFault>
+    ensures { Reads (reading.before (codes ")") (separated T.reader) tokens.old) result tokens.new }
+{
+    let found = separated(alloc, tokens)?;
+    expect(alloc, tokens, b")")?;
+    Ok(found)
+}
+
 /// Reads the name and the kind of a parameter.
 #[tactic(auto, unfolding(crate::specs::steps::Reading::param))]
 pub(crate) fn param(alloc: Global, tokens: &mut Tokens) -> Result<Param, SyntaxFault>
     ensures { Reads (reading.param tokens.old) result tokens.new }
 {
-    let name = ident(alloc, tokens)?;
-    expect(alloc, tokens, b":")?;
+    let name = before(alloc, tokens, b":")?;
     let kind = kind(alloc, tokens)?;
     Ok(Param { name, kind })
 }
@@ -45,8 +69,7 @@ pub(crate) fn param(alloc: Global, tokens: &mut Tokens) -> Result<Param, SyntaxF
 pub(crate) fn stream(alloc: Global, tokens: &mut Tokens) -> Result<Stream, SyntaxFault>
     ensures { Reads (reading.stream tokens.old) result tokens.new }
 {
-    let name = ident(alloc, tokens)?;
-    expect(alloc, tokens, b":")?;
+    let name = before(alloc, tokens, b":")?;
     let kinds = kinds(alloc, tokens)?;
     Ok(Stream { name, kinds })
 }

@@ -3,7 +3,8 @@ ghost use Rattle.function_language.specs.declared.tree.Statement.TheVariants.{Le
 ghost use Rattle.program_tokens.specs.steps.Parsers.{Reads};
 ghost use Rattle.function_language.specs.steps.Reading as reading;
 
-use crate::expression::{arguments, expr};
+use crate::expression::{arguments, enclosed, expr_before};
+use crate::signature::before;
 use crate::tree::{Block, Statement};
 use program_tokens::{SyntaxFault, Tokens, closed, eat, expect, ident, refused};
 use sqlite_items::Items;
@@ -59,10 +60,8 @@ fn statement(alloc: Global, tokens: &mut Tokens, depth: u32) -> Result<Statement
 fn let_statement(alloc: Global, tokens: &mut Tokens, depth: u32) -> Result<Statement, SyntaxFault>
     ensures { Reads (reading.binding (reading.expr depth) a_let tokens.old) result tokens.new }
 {
-    let name = ident(alloc, tokens)?;
-    expect(alloc, tokens, b"=")?;
-    let value = expr(alloc, tokens, depth)?;
-    expect(alloc, tokens, b";")?;
+    let name = before(alloc, tokens, b"=")?;
+    let value = expr_before(alloc, tokens, depth, b";")?;
     Ok(Statement::Let { name, value })
 }
 
@@ -71,10 +70,8 @@ fn let_statement(alloc: Global, tokens: &mut Tokens, depth: u32) -> Result<State
 fn set_statement(alloc: Global, tokens: &mut Tokens, depth: u32) -> Result<Statement, SyntaxFault>
     ensures { Reads (reading.binding (reading.expr depth) a_set tokens.old) result tokens.new }
 {
-    let name = ident(alloc, tokens)?;
-    expect(alloc, tokens, b"=")?;
-    let value = expr(alloc, tokens, depth)?;
-    expect(alloc, tokens, b";")?;
+    let name = before(alloc, tokens, b"=")?;
+    let value = expr_before(alloc, tokens, depth, b";")?;
     Ok(Statement::Set { name, value })
 }
 
@@ -84,23 +81,23 @@ fn set_statement(alloc: Global, tokens: &mut Tokens, depth: u32) -> Result<State
 fn if_statement(alloc: Global, tokens: &mut Tokens, depth: u32) -> Result<Statement, SyntaxFault>
     ensures { Reads (reading.if_statement (reading.expr depth) (reading.block depth) tokens.old) result tokens.new }
 {
-    expect(alloc, tokens, b"(")?;
-    let test = expr(alloc, tokens, depth)?;
-    expect(alloc, tokens, b")")?;
+    let test = enclosed(alloc, tokens, depth)?;
     let yes = block(alloc, tokens, depth)?;
+    let no = other(alloc, tokens, depth)?;
+    Ok(Statement::If { test, yes, no })
+}
+
+/// Reads what stands behind the block of an `if`: `else` and a block, or nothing.
+#[cycle(statement)]
+#[tactic(auto, unfolding(crate::specs::steps::Reading::other))]
+fn other(alloc: Global, tokens: &mut Tokens, depth: u32) -> Result<Option<Block>, SyntaxFault>
+    ensures { Reads (reading.other (reading.block depth) tokens.old) result tokens.new }
+{
     if !eat(alloc, tokens, b"else")? {
-        return Ok(Statement::If {
-            test,
-            yes,
-            no: None,
-        });
+        return Ok(None);
     }
-    let no = block(alloc, tokens, depth)?;
-    Ok(Statement::If {
-        test,
-        yes,
-        no: Some(no),
-    })
+    let found = block(alloc, tokens, depth)?;
+    Ok(Some(found))
 }
 
 /// Reads a `for` behind the word.
@@ -164,9 +161,7 @@ fn give_statement(
 ) -> Result<Statement, SyntaxFault>
     ensures { Reads (reading.give_statement (reading.expr depth) line tokens.old) result tokens.new }
 {
-    expect(alloc, tokens, b"(")?;
-    let value = expr(alloc, tokens, depth)?;
-    expect(alloc, tokens, b")")?;
+    let value = enclosed(alloc, tokens, depth)?;
     expect(alloc, tokens, b";")?;
     Ok(Statement::Give { line, value })
 }

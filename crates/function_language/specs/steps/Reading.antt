@@ -12,23 +12,29 @@ use Rattle.function_language.specs.declared.tree.Expr.{Expr}
 use Rattle.function_language.specs.declared.tree.Expr.TheVariants as an_expr
 use Rattle.function_language.specs.declared.tree.Statement.{Statement}
 use Rattle.function_language.specs.declared.tree.Statement.TheVariants as a_statement
+use Rattle.function_language.specs.declared.function.Tail.{Tail}
 use Rattle.function_language.specs.declared.tree.Function.{Function}
 use Rattle.function_language.specs.declared.tree.Function.TheVariants as a_function
 use Rattle.program_tokens.specs.steps.Parsers.{Parser, kind, kinds, ◌>>=◌, ◌>>◌, pure, refuse, eat, expect, expect_end, expect_line, here, ident, peek, separated, closed, block_from, repeated}
 
 -- ---- parameters and streams
 
+-- something, and the word or mark behind it
+unfoldable pub before : {A : Type 0} → List ℕ → Parser A → Parser A
+before word item = do
+  found ← item
+  expect word
+  pure found
+
 unfoldable pub param : Parser Param
 param = do
-  name ← ident
-  expect (codes ":")
+  name ← before (codes ":") ident
   of ← kind
   pure (record { name = name; kind = of })
 
 unfoldable pub stream : Parser Stream
 stream = do
-  name ← ident
-  expect (codes ":")
+  name ← before (codes ":") ident
   of ← kinds
   pure (record { name = name; kinds = of })
 
@@ -93,22 +99,30 @@ expr depth = expr_of (call depth)
 -- what `let` and `set` have in common behind the word
 unfoldable pub binding : Parser Expr → (Ident → Expr → Statement) → Parser Statement
 binding value made = do
-  name ← ident
-  expect (codes "=")
-  bound ← value
-  expect (codes ";")
+  name ← before (codes "=") ident
+  bound ← before (codes ";") value
   pure (made name bound)
+
+-- what stands between parentheses
+unfoldable pub enclosed : Parser Expr → Parser Expr
+enclosed value = do
+  expect (codes "(")
+  before (codes ")") value
+
+-- what stands behind the block of an `if`
+unfoldable pub other : Parser (List Statement) → Parser (Option (List Statement))
+other block = do
+  has_other ← eat (codes "else")
+  cond has_other (do
+    found ← block
+    pure (Some found)) (pure None)
 
 unfoldable pub if_statement : Parser Expr → Parser (List Statement) → Parser Statement
 if_statement value block = do
-  expect (codes "(")
-  test ← value
-  expect (codes ")")
+  test ← enclosed value
   chosen ← block
-  has_other ← eat (codes "else")
-  cond has_other (do
-    other ← block
-    pure (a_statement.If test chosen (Some other))) (pure (a_statement.If test chosen None))
+  rest ← other block
+  pure (a_statement.If test chosen rest)
 
 unfoldable pub for_statement : Parser (List Statement) → Parser Statement
 for_statement block = do
@@ -128,9 +142,7 @@ emit_statement value line = do
 
 unfoldable pub give_statement : Parser Expr → ℕ → Parser Statement
 give_statement value line = do
-  expect (codes "(")
-  given ← value
-  expect (codes ")")
+  given ← enclosed value
   expect (codes ";")
   pure (a_statement.Give line given)
 
@@ -165,52 +177,48 @@ block (suc depth) = expect (codes "{") >> statements (statement_of (expr depth) 
 
 -- ---- functions
 
+-- a name, and a key with the mark behind it
+unfoldable pub keyed : List ℕ → Parser (Ident × Param)
+keyed mark = do
+  name ← before (codes "(") ident
+  key ← before mark param
+  pure (name, key)
+
 -- what a function emits, and its body
-unfoldable pub map_function : Parser Function
-map_function = do
-  name ← ident
-  expect (codes "(")
-  params ← separated param
-  expect (codes ")")
+unfoldable pub tail : Parser Tail
+tail = do
   arrow ← expect_line (codes "->")
   out ← kinds
   body ← block 32
-  pure (a_function.Map name params arrow (record { kinds = out }) body)
+  pure (record { arrow = arrow; out = record { kinds = out }; body = body })
+
+unfoldable pub map_function : Parser Function
+map_function = do
+  name ← before (codes "(") ident
+  params ← before (codes ")") (separated param)
+  rest ← tail
+  pure (a_function.Map name params rest.arrow rest.out rest.body)
 
 unfoldable pub reduce_function : Parser Function
 reduce_function = do
-  name ← ident
-  expect (codes "(")
-  key ← param
-  expect (codes ";")
-  streams ← separated stream
-  expect (codes ")")
-  arrow ← expect_line (codes "->")
-  out ← kinds
-  body ← block 32
-  pure (a_function.Reduce name key streams arrow (record { kinds = out }) body)
+  head ← keyed (codes ";")
+  streams ← before (codes ")") (separated stream)
+  rest ← tail
+  pure (a_function.Reduce head.0 head.1 streams rest.arrow rest.out rest.body)
 
 unfoldable pub distance_function : Parser Function
 distance_function = do
-  name ← ident
-  expect (codes "(")
-  key ← param
-  expect (codes ";")
-  before ← stream
-  expect (codes ",")
-  after ← stream
-  expect (codes ")")
+  head ← keyed (codes ";")
+  old ← before (codes ",") stream
+  new ← before (codes ")") stream
   body ← block 32
-  pure (a_function.Distance name key before after body)
+  pure (a_function.Distance head.0 head.1 old new body)
 
 unfoldable pub partition_function : Parser Function
 partition_function = do
-  name ← ident
-  expect (codes "(")
-  key ← param
-  expect (codes ")")
+  head ← keyed (codes ")")
   body ← block 32
-  pure (a_function.Partition name key body)
+  pure (a_function.Partition head.0 head.1 body)
 
 unfoldable pub function : Parser Function
 function = do
