@@ -1,8 +1,10 @@
-//! Texts of programs and of functions, read and printed; a crate for tests alone.
+//! The language: functions printed, checked and run; a crate for tests alone.
 #![tactic(auto)]
 
+#[cfg(test)]
+mod running;
 #[cfg(test)]
 mod texts;
 mod vectors;
 
-pub use vectors::{key_part, small_text};
+pub use vectors::{greatest_and_one, key_part, small_text, worked_vectors};

@@ -1,6 +1,6 @@
 use Rattle.std.proofs.Common.{refl}
 use Rattle.operations.specs.Operations.{operation_named}
-use Rattle.evaluator_tests.proofs.vectors.worked_vectors.Goals as goal
+use Rattle.language_tests.proofs.vectors.worked_vectors.Goals as goal
 
 pub returns : goal.returns
 unfolding operation_named
