@@ -1,4 +1,4 @@
-//! Worked rows and vectors over the public calls of the crates below; a crate for tests alone.
+//! Worked rows, and calls that the built program does not make; a crate for tests alone.
 #![tactic(auto)]
 
 #[cfg(test)]
@@ -8,12 +8,8 @@ mod chain_tests;
 #[cfg(test)]
 mod failing;
 #[cfg(test)]
-mod functions;
-#[cfg(test)]
-mod library_tests;
+mod failure_tests;
 pub mod link_counts;
 pub mod rows;
 #[cfg(test)]
 mod samples;
-#[cfg(test)]
-mod top_tests;

@@ -1,11 +1,14 @@
-// Schemas and records for tests.
+// Records of two numbers, for tests.
 use hal_base::{Fields, Kind, Kinds, Memory, Record, Schema, Value};
 use std::alloc::Global;
 
-pub(crate) fn schema_of(alloc: Global, key: Kind, field: Kind) -> Result<Schema, Memory> {
+pub(crate) fn pairs_schema(alloc: Global) -> Result<Schema, Memory> {
     let mut fields = Kinds::new(alloc);
-    fields.push(field)?;
-    Ok(Schema { key, fields })
+    fields.push(Kind::Int)?;
+    Ok(Schema {
+        key: Kind::Int,
+        fields,
+    })
 }
 
 pub(crate) fn pair(alloc: Global, key: i64, field: i64) -> Result<Record, Memory> {
