@@ -52,6 +52,7 @@ impl<'a> Model for SortedSlice<'a> {
 }
 
 impl<'a> SortedSlice<'a> {
+    /// A stream over records that stand in order, least first.
     pub fn new(rows: &'a [Record]) -> SortedSlice<'a>
         requires { Ascending record_cmp rows.now }
         ensures { result ≡ rows.now }

@@ -20,6 +20,7 @@ abbrev mutual
   from_token [] = []
   from_token (b ∷ text) = cond (is_blank b) (from_token text) (cond (b == 35) (behind_comment text) (b ∷ text))
 
+  -- within a comment, the text from the first token behind it on
   pub behind_comment : List ℕ → List ℕ
   behind_comment [] = []
   behind_comment (b ∷ text) = cond (b == 10) (from_token text) (behind_comment text)

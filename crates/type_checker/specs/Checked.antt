@@ -19,5 +19,5 @@ abbrev pub ◌>>◌ : {A B E : Type 0} → Result A E → Result B E → Result 
 (Err fault) >> b = Err fault
 
 -- all is right
-abbrev pub fine : Checked (Unit {0})
+abbrev pub fine : {E : Type 0} → Result (Unit {0}) E
 fine = Ok tt
