@@ -1,4 +1,5 @@
-// What the built program does not show of functions: the kinds of a fault, the flags, and the order in which a map emits.
+// What the built program does not show of functions: both kinds of a fault, the flags, the order in which a map emits, and
+// how far two groups are apart by default.
 use function_eval::Evaluator;
 use function_language::read_functions;
 use hal_base::{Fields, Functions, Group, Kind, Memory, Record, Records, Value, lines};
@@ -8,68 +9,68 @@ use type_checker::{TypeFault, Use, UseMaps, UseStep, UseSteps, Uses, check};
 
 /// Functions with a fault of kinds, and whether a number is wanted and a text stands there; else it is the other way
 /// round.
-const WRONG_KINDS: &[(&[u8], bool)] = &[
-    (b"partition f(k: int) { give(add(1, \"a\")); }", true),
-    (b"partition f(k: int) { give(len(1)); }", false),
-    (b"partition f(k: int) { give(eq(1, \"a\")); }", true),
-    (b"partition f(k: int) { give(eq(\"a\", 1)); }", false),
-    (b"partition f(k: int) { if (\"a\") {} }", true),
-    (b"partition f(k: text) { give(k); }", true),
-    (b"partition f(k: int) { let n = 1; set n = \"a\"; }", true),
-    (b"partition f(k: int) { let t = \"a\"; set t = 1; }", false),
+const WRONG_KINDS: &[(&str, bool)] = &[
+    ("partition f(k: int) { give(add(1, \"a\")); }", true),
+    ("partition f(k: int) { give(len(1)); }", false),
+    ("partition f(k: int) { give(eq(1, \"a\")); }", true),
+    ("partition f(k: int) { give(eq(\"a\", 1)); }", false),
+    ("partition f(k: int) { if (\"a\") {} }", true),
+    ("partition f(k: text) { give(k); }", true),
+    ("partition f(k: int) { let n = 1; set n = \"a\"; }", true),
+    ("partition f(k: int) { let t = \"a\"; set t = 1; }", false),
 ];
 
 /// A function, and whether `round` stands in it.
-const ROUNDS: &[(&[u8], bool)] = &[
-    (b"map f(k: int) -> (int) { emit(k); }", false),
-    (b"map f(k: int) -> (int) { emit(round); }", true),
+const ROUNDS: &[(&str, bool)] = &[
+    ("map f(k: int) -> (int) { emit(k); }", false),
+    ("map f(k: int) -> (int) { emit(round); }", true),
     (
-        b"map f(k: int) -> (int) { let n = add(1, mul(2, round)); emit(k); }",
+        "map f(k: int) -> (int) { let n = add(1, mul(2, round)); emit(k); }",
         true,
     ),
     (
-        b"map f(k: int) -> (int) { if (0) { emit(k); } else { if (0) { emit(round); } } }",
+        "map f(k: int) -> (int) { if (0) { emit(k); } else { if (0) { emit(round); } } }",
         true,
     ),
     (
-        b"map f(round_2: int) -> (int, text) { emit(round_2, \"round\"); }",
+        "map f(round_2: int) -> (int, text) { emit(round_2, \"round\"); }",
         false,
     ),
-    (b"partition f(k: int) { give(k); }", false),
+    ("partition f(k: int) { give(k); }", false),
     (
-        b"partition f(k: int) { if (gt(round, 1)) { give(k); } }",
+        "partition f(k: int) { if (gt(round, 1)) { give(k); } }",
         true,
     ),
-    (b"partition f(k: int) { let n = 0; set n = round; }", true),
+    ("partition f(k: int) { let n = 0; set n = round; }", true),
 ];
 
 /// A reduce, and whether it keeps its key.
-const KEPT: &[(&[u8], bool)] = &[
+const KEPT: &[(&str, bool)] = &[
     (
-        b"reduce f(k: int; s: (int)) -> (int, int) { for (x) in s { emit(k, x); } }",
+        "reduce f(k: int; s: (int)) -> (int, int) { for (x) in s { emit(k, x); } }",
         true,
     ),
     (
-        b"reduce f(k: int; s: (int)) -> (int, int) { for (x) in s { emit(x, k); } }",
+        "reduce f(k: int; s: (int)) -> (int, int) { for (x) in s { emit(x, k); } }",
         false,
     ),
     (
-        b"reduce f(k: int; s: (int)) -> (int) { emit(k); if (0) { emit(k); } else { emit(1); } }",
+        "reduce f(k: int; s: (int)) -> (int) { emit(k); if (0) { emit(k); } else { emit(1); } }",
         false,
     ),
     (
-        b"reduce f(k: int; s: (int)) -> (int) { if (1) { emit(0); } emit(k); }",
+        "reduce f(k: int; s: (int)) -> (int) { if (1) { emit(0); } emit(k); }",
         false,
     ),
     (
-        b"reduce f(k: int; s: (int)) -> (int) { emit(add(k, 0)); }",
+        "reduce f(k: int; s: (int)) -> (int) { emit(add(k, 0)); }",
         false,
     ),
     (
-        b"reduce f(k: int; s: (int)) -> (int) { let j = k; emit(j); }",
+        "reduce f(k: int; s: (int)) -> (int) { let j = k; emit(j); }",
         false,
     ),
-    (b"reduce f(k: int; s: (int)) -> (int) {}", true),
+    ("reduce f(k: int; s: (int)) -> (int) {}", true),
 ];
 
 /// What a predefined function is used for, and whether it keeps the key.
@@ -77,8 +78,8 @@ const PREDEFINED: &[(Use, bool)] = &[(Use::Least, true), (Use::Every, true), (Us
 
 /// Whether the first fault in functions is one of kinds: whether a number is wanted and a text stands there, or the
 /// other way round.
-fn number_is_wanted(alloc: Global, text: &[u8]) -> Result<Option<bool>, Fail> {
-    let tree = read_functions(alloc, text)?;
+fn number_is_wanted(alloc: Global, text: &str) -> Result<Option<bool>, Fail> {
+    let tree = read_functions(alloc, text.as_bytes())?;
     match check(alloc, tree).err() {
         Some(TypeFault::WrongKind { want, got, .. }) => Ok(number_before_text(want, got)),
         _ => Ok(None),
@@ -110,20 +111,20 @@ fn uses_of(alloc: Global, used: Use) -> Result<Uses, Memory> {
 }
 
 /// The functions of a text, over two parts.
-fn evaluator_of(alloc: Global, text: &[u8], used: Use) -> Result<Evaluator, Fail> {
-    let tree = read_functions(alloc, text)?;
+fn evaluator_of(alloc: Global, text: &str, used: Use) -> Result<Evaluator, Fail> {
+    let tree = read_functions(alloc, text.as_bytes())?;
     let typed = check(alloc, tree).ok().ok_or("a fault of names or kinds")?;
     let uses = uses_of(alloc, used)?;
     Ok(Evaluator::new(alloc, typed, uses, 2)?)
 }
 
-/// Whether the map uses the round, and so the partition.
-fn uses_round(alloc: Global, text: &[u8], used: Use) -> Result<(bool, bool), Fail> {
+/// Whether the map uses the round, and whether the partition does.
+fn uses_round(alloc: Global, text: &str, used: Use) -> Result<(bool, bool), Fail> {
     let ready = evaluator_of(alloc, text, used)?;
     Ok((ready.map_uses_round(1, 1), ready.partition_uses_round(1)))
 }
 
-fn keeps_key(alloc: Global, text: &[u8], used: Use) -> Result<bool, Fail> {
+fn keeps_key(alloc: Global, text: &str, used: Use) -> Result<bool, Fail> {
     Ok(evaluator_of(alloc, text, used)?.keeps_key(1))
 }
 
@@ -138,14 +139,14 @@ fn group_of(alloc: Global, number: i64) -> Result<Group, Memory> {
 
 /// The distance of a program that stops exactly, of a key with one number before and one behind.
 fn distance(alloc: Global, old: i64, new: i64) -> Result<u64, Fail> {
-    let ready = evaluator_of(alloc, b"", Use::Default)?;
+    let ready = evaluator_of(alloc, "", Use::Default)?;
     let old = group_of(alloc, old)?;
     let new = group_of(alloc, new)?;
     Ok(ready.distance(alloc, &Value::Int(1), &old, &new)?)
 }
 
 /// The lines that a map emits for these keys, one after another.
-fn mapped(alloc: Global, text: &[u8], keys: &[i64]) -> Result<Vec<u8>, Fail> {
+fn mapped(alloc: Global, text: &str, keys: &[i64]) -> Result<Vec<u8>, Fail> {
     let ready = evaluator_of(alloc, text, Use::Function(0))?;
     let mut out = Records::new(alloc);
     for key in keys {
@@ -161,7 +162,10 @@ fn mapped(alloc: Global, text: &[u8], keys: &[i64]) -> Result<Vec<u8>, Fail> {
 #[test]
 fn faults_of_kinds_have_both_kinds(rt: HostRuntime) -> Result<(), Fail> {
     for (text, number) in WRONG_KINDS {
-        assert!(rt; number_is_wanted(rt.alloc(), text)? == Some(*number));
+        assert!(rt;
+            number_is_wanted(rt.alloc(), text)? == Some(*number),
+            "{text}"
+        );
     }
     Ok(())
 }
@@ -170,25 +174,35 @@ fn faults_of_kinds_have_both_kinds(rt: HostRuntime) -> Result<(), Fail> {
 fn rounds_are_used_and_keys_kept(rt: HostRuntime) -> Result<(), Fail> {
     let alloc = rt.alloc();
     for (text, used) in ROUNDS {
-        assert!(rt; uses_round(alloc, text, Use::Function(0))? == (*used, *used));
+        assert!(rt;
+            uses_round(alloc, text, Use::Function(0))? == (*used, *used),
+            "{text}"
+        );
     }
     for (text, kept) in KEPT {
-        assert!(rt; keeps_key(alloc, text, Use::Function(0))? == *kept);
+        assert!(rt;
+            keeps_key(alloc, text, Use::Function(0))? == *kept,
+            "{text}"
+        );
     }
     for (used, kept) in PREDEFINED {
-        assert!(rt; uses_round(alloc, b"", *used)? == (false, false));
-        assert!(rt; keeps_key(alloc, b"", *used)? == *kept);
+        assert!(rt; uses_round(alloc, "", *used)? == (false, false));
+        assert!(rt; keeps_key(alloc, "", *used)? == *kept);
     }
     Ok(())
 }
 
 #[test]
-fn records_are_emitted_in_order(rt: HostRuntime) -> Result<(), Fail> {
-    let alloc = rt.alloc();
-    let text = b"map f(k: int) -> (int) { emit(k); emit(add(k, 1)); emit(k); }";
-    let emitted = mapped(alloc, text, &[5, 1])?;
+fn maps_emit_in_order(rt: HostRuntime) -> Result<(), Fail> {
+    let text = "map f(k: int) -> (int) { emit(k); emit(add(k, 1)); emit(k); }";
+    let emitted = mapped(rt.alloc(), text, &[5, 1])?;
     assert!(rt; emitted.as_slice() == b"5\n6\n5\n1\n2\n1\n".as_slice());
-    assert!(rt; distance(alloc, 5, 6)? == 1);
-    assert!(rt; distance(alloc, 5, 5)? == 0);
+    Ok(())
+}
+
+#[test]
+fn groups_that_differ_are_one_apart(rt: HostRuntime) -> Result<(), Fail> {
+    assert_eq!(rt; distance(rt.alloc(), 5, 6)?, 1);
+    assert_eq!(rt; distance(rt.alloc(), 5, 5)?, 0);
     Ok(())
 }

@@ -127,7 +127,10 @@ fn counted_links_end_in_each_way(rt: HostRuntime) -> Result<(), Fail> {
         (false, 1, End::Close),
         (false, 0, End::Limit),
     ] {
-        assert!(rt; ends_so(rt.alloc(), Stop { exact, threshold }, end)?);
+        assert!(rt;
+            ends_so(rt.alloc(), Stop { exact, threshold }, end)?,
+            "below {threshold}"
+        );
     }
     Ok(())
 }
