@@ -23,9 +23,10 @@ use Rattle.loop_program.specs.Found.{demand, each, or_wrong}
 use Rattle.loop_program.specs.Limits.{limits}
 use Rattle.loop_program.specs.declared.places.Sort.TheVariants.{Distance}
 use Rattle.loop_program.specs.Places.{distance_named, is_called, places, steps_named, table_named}
-use Rattle.loop_program.specs.Programs.{is_exact, schemas, shape_of, threshold_of, uses_of, whole}
+use Rattle.loop_program.specs.Programs.{accepted, is_exact, schemas, shape_of, threshold_of, uses_of, whole}
 use Rattle.loop_program.specs.Rules.{KeepsRules}
 use Rattle.loop_program.specs.Schemas.{distance_takes, last_line, last_schema, same_schema, steps_typed, table_schema}
+use Rattle.loop_program.specs.Whole.{Whole}
 use Rattle.type_checker.proofs.Binding.{bind_ok, then_ok}
 use Rattle.loop_program.proofs.Chains.{demanded, each_length, is_there, ok_same}
 use Rattle.loop_program.proofs.ByNumber.{keys_fit, last_fits, maps_fit, not_kept, partitions_fit, reduces_fit}
@@ -67,8 +68,8 @@ names_kept sketch found w e =
       default = default_exactly sketch.functions sketch.stop distance.0 distance.1;
     })
 
--- a program that is accepted keeps the rules
-pub rules_kept : (sketch : TypedSketch) (found : Places) (tables : List Schema) (steps : List Step) (u : Unit {0}) → AreTyped sketch.functions → CanBeSpelled sketch.functions → 1 ≤ length sketch.steps → limits sketch ≡ Ok u → places sketch ≡ Ok found → each table_schema sketch.tables ≡ Ok tables → schemas sketch found tables ≡ Ok steps → KeepsRules (whole sketch found tables steps)
+-- what its limits, places and schemas keep makes a program that keeps the rules
+rules_kept : (sketch : TypedSketch) (found : Places) (tables : List Schema) (steps : List Step) (u : Unit {0}) → AreTyped sketch.functions → CanBeSpelled sketch.functions → 1 ≤ length sketch.steps → limits sketch ≡ Ok u → places sketch ≡ Ok found → each table_schema sketch.tables ≡ Ok tables → schemas sketch found tables ≡ Ok steps → KeepsRules (whole sketch found tables steps)
 rules_kept sketch found tables steps u t spelled some l p ts e =
     let within = limits_kept sketch u l in
     let names = names_kept sketch found within p in
@@ -117,3 +118,12 @@ rules_kept sketch found tables steps u t spelled some l p ts e =
       names = length-map sketch.tables (λ (table : TableSketch). table.name.text) ∙ sym many;
       files = length-map sketch.tables (λ (table : TableSketch). table.file) ∙ sym many;
     })
+
+-- a program that is accepted keeps the rules
+pub accepted_kept : (sketch : TypedSketch) (program : Whole) → AreTyped sketch.functions → CanBeSpelled sketch.functions → 1 ≤ length sketch.steps → accepted sketch ≡ Ok program → KeepsRules program
+accepted_kept sketch program t spelled some e =
+    let within = then_ok (limits sketch) _ program e in
+    let found = bind_ok (places sketch) _ program within.2 in
+    let tables = bind_ok (each table_schema sketch.tables) _ program found.2 in
+    let steps = bind_ok (schemas sketch found.0 tables.0) _ program tables.2 in
+    subst KeepsRules (ok_same steps.2) (rules_kept sketch found.0 tables.0 steps.0 within.0 t spelled some within.1 found.1 tables.1 steps.1)

@@ -1,10 +1,8 @@
 -- The program of a text, and what is wrong with one.
-use Rattle.std.proofs.Common.{Ok, Err, IfErr, IfOk, Result, List, [], Some, None, ℕ, ◌≡◌, inl, inr, sym, subst, ◌∙◌}
-use Rattle.function_language.specs.declared.tree.Function.{Function}
+use Rattle.std.proofs.Common.{Ok, Err, IfErr, IfOk, Result, List, Some, None, ℕ, ◌≡◌, inl, inr, sym, subst, ◌∙◌}
 use Rattle.type_checker.specs.declared.fault.TypeFault.{TypeFault}
 use Rattle.type_checker.specs.declared.fault.TypeFault.TheVariants as fault
 use Rattle.type_checker.specs.Checked.{Checked, fine}
-use Rattle.type_checker.specs.Functions.{HaveTypeFault, functions_right}
 use Rattle.program_sketch.specs.declared.fault.ProgramFault.{ProgramFault}
 use Rattle.program_sketch.specs.declared.fault.ProgramFault.TheVariants.{At, Memory}
 use Rattle.program_sketch.specs.declared.fault.What.{What}
@@ -13,9 +11,9 @@ use Rattle.program_sketch.specs.Programs.{IsMisspelled, IsNotRead, IsProgramText
 use Rattle.program_sketch.specs.Programs as spelling
 use Rattle.loop_program.specs.Found.{Found}
 use Rattle.loop_program.specs.Programs.{HasWrong, IsFaulty, IsJustProgram, IsRefusedBy, IsTextOfProgram, OneThingIsWrong, accepted}
-use Rattle.loop_program.specs.steps.Tells.{FaultIs, IsFound, SaysFault, Tells}
+use Rattle.loop_program.specs.steps.Tells.{FaultIs, IsFound, Tells}
 use Rattle.loop_program.specs.Whole.{Whole}
-use Rattle.loop_program.specs.Types.{AreRight, HasFirst, IsSaid, as_typed, double_table}
+use Rattle.loop_program.specs.Types.{AreRight, HasFirst, IsSaid, as_typed}
 use Rattle.program_sketch.proofs.Programs.{not_misspelled, one_misspelling, one_program}
 
 -- ---- faults of functions
@@ -29,21 +27,6 @@ one_said (fault.EmitMismatch function at) line other what wrong s t = (t.0 ∙ s
 one_said (fault.DoubleName function at) line other what wrong s t = (t.0 ∙ sym s.0, t.1 ∙ sym s.1)
 one_said (fault.StreamMismatch function at) line other what wrong s t = (t.0 ∙ sym s.0, t.1 ∙ sym s.1)
 one_said fault.Memory line other what wrong s t = absurd s
-
--- what is said of a fault that functions have is said of their first
-first_said : (functions : List Function) (found : TypeFault) (line : ℕ) (what : What) → HaveTypeFault functions found → IsSaid found line what → functions_right 0 [] functions ≡ Err found
-first_said functions (fault.WrongKind function at want got) line what h s = h
-first_said functions (fault.UnknownName function at) line what h s = h
-first_said functions (fault.WrongCount function at) line what h s = h
-first_said functions (fault.EmitMismatch function at) line what h s = h
-first_said functions (fault.DoubleName function at) line what h s = h
-first_said functions (fault.StreamMismatch function at) line what h s = h
-first_said functions fault.Memory line what h s = absurd s
-
--- where the tables are right, what is said of the functions is the program's first fault
-pub functions_fault : (sketch : Sketch) (found : TypeFault) (it : ProgramFault) → double_table [] sketch.tables ≡ None → HaveTypeFault sketch.functions found → SaysFault found it → FaultIs sketch it
-functions_fault sketch found (At line what) none h s = inr (none, found, first_said sketch.functions found line what h s, s)
-functions_fault sketch found Memory none h s = tt
 
 -- ---- the first fault of a program
 

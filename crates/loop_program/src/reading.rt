@@ -6,7 +6,7 @@ ghost use Rattle.loop_program.specs.Programs as spec;
 ghost use Rattle.loop_program.specs.Programs.{IsJustProgram, IsRefusedBy};
 ghost use Rattle.loop_program.specs.Rules.{KeepsRules};
 ghost use Rattle.loop_program.specs.Schemas as schemas;
-ghost use Rattle.loop_program.specs.steps.Tells.{Tells};
+ghost use Rattle.loop_program.specs.steps.Tells.{Tells, TellsParts, with_parts};
 
 use crate::limits::limits;
 use crate::places::{NamedStep, Places, count_of, find_places};
@@ -31,6 +31,15 @@ pub fn read_program(alloc: Global, text: &[u8]) -> Result<Program, ProgramFault>
     accept(alloc, typed)
 }
 
+/// What the passes behind the kinds make of a program. The rest of it is as it was written.
+#[derive(Drop)]
+pub(crate) struct Parts {
+    pub(crate) uses: Uses,
+    pub(crate) shape: Shape,
+    pub(crate) names: Names,
+    pub(crate) files: Names,
+}
+
 /// The program, where its limits, the names in its steps and their schemas are right.
 fn accept(alloc: Global, sketch: TypedSketch) -> Result<Program, ProgramFault>
     requires typed { AreTyped sketch.functions }
@@ -39,11 +48,26 @@ fn accept(alloc: Global, sketch: TypedSketch) -> Result<Program, ProgramFault>
     ensures found { Tells (spec.accepted sketch) result }
     ensures kept { IfOk result KeepsRules }
 {
-    limits(&sketch)?;
-    let found = find_places(alloc, &sketch)?;
+    let parts = find_parts(alloc, &sketch)?;
+    Ok(Program {
+        typed: sketch.functions,
+        uses: parts.uses,
+        shape: parts.shape,
+        names: parts.names,
+        files: parts.files,
+        asked: sketch.asked,
+    })
+}
+
+/// What its limits, the names in its steps and their schemas make of a program.
+fn find_parts(alloc: Global, sketch: &TypedSketch) -> Result<Parts, ProgramFault>
+    ensures { TellsParts sketch.now result }
+{
+    limits(sketch)?;
+    let found = find_places(alloc, sketch)?;
     let tables = table_schemas(alloc, sketch.tables.as_slice())?;
-    let steps = typed_steps(alloc, &sketch, &found, tables.as_slice())?;
-    Ok(whole(alloc, sketch, &found, tables, steps)?)
+    let steps = typed_steps(alloc, sketch, &found, tables.as_slice())?;
+    Ok(parts_of(alloc, sketch, &found, tables, steps)?)
 }
 
 /// The steps with their schemas; the last output is of the schema of the start table, and so are the groups
@@ -90,28 +114,24 @@ fn last_line(steps: &[NamedStep]) -> u64
     }
 }
 
-/// A program of these parts.
-fn whole(
+/// The parts of a program with these places and schemas.
+fn parts_of(
     alloc: Global,
-    sketch: TypedSketch,
+    sketch: &TypedSketch,
     found: &Places,
     tables: Schemas,
     steps: Steps,
-) -> Result<Program, Memory>
-    requires kept { KeepsRules (spec.whole sketch found.now tables steps) }
-    ensures { IfOk result (λ program. program ≡ spec.whole sketch found.now tables steps) }
+) -> Result<Parts, Memory>
+    ensures { IfOk result (λ parts. with_parts sketch.now parts ≡ spec.whole sketch.now found.now tables steps) }
 {
     let names = names_of(alloc, sketch.tables.as_slice())?;
     let files = files_of(alloc, sketch.tables.as_slice())?;
     let uses = uses_of(alloc, found)?;
-    let shape = shape_of(alloc, &sketch, found.start, tables, steps);
-    Ok(Program {
-        typed: sketch.functions,
+    Ok(Parts {
         uses,
-        shape,
+        shape: shape_of(alloc, sketch, found.start, tables, steps),
         names,
         files,
-        asked: sketch.asked,
     })
 }
 

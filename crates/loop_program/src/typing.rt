@@ -1,5 +1,5 @@
-ghost use Rattle.std.specs.Prelude.{◌≡◌, [], IfErr, IfOk};
-ghost use Rattle.loop_program.specs.steps.Tells.{FaultIs, SaysFault};
+ghost use Rattle.std.specs.Prelude.{◌≡◌, [], IfErr, IfOk, None};
+ghost use Rattle.loop_program.specs.steps.Tells.{FaultIs, SaysFault, TablesRefuse};
 ghost use Rattle.loop_program.specs.Types as types;
 ghost use Rattle.loop_program.specs.Types.{AreRight, as_typed};
 
@@ -32,16 +32,7 @@ pub(crate) fn type_sketch(alloc: Global, sketch: Sketch) -> Result<TypedSketch, 
     ensures typed { IfOk result (λ typed. AreRight sketch × (typed ≡ as_typed sketch)) }
     ensures refused { IfErr result (FaultIs sketch) }
 {
-    match double_table(alloc, sketch.tables.as_slice()) {
-        Ok(None) => {}
-        Ok(Some(line)) => {
-            return Err(ProgramFault::At {
-                line,
-                what: What::DoubleName,
-            });
-        }
-        Err(Memory) => return Err(ProgramFault::Memory),
-    }
+    tell_tables_apart(alloc, sketch.tables.as_slice())?;
     match check(alloc, sketch.functions) {
         Ok(functions) => Ok(TypedSketch {
             name: sketch.name,
@@ -55,6 +46,20 @@ pub(crate) fn type_sketch(alloc: Global, sketch: Sketch) -> Result<TypedSketch, 
             steps: sketch.steps,
         }),
         Err(fault) => Err(said(fault)),
+    }
+}
+
+/// No table has the name of another.
+fn tell_tables_apart(alloc: Global, tables: &[TableSketch]) -> Result<(), ProgramFault>
+    ensures apart { IfOk result (λ _. types.double_table [] tables.now ≡ None) }
+    ensures refused { IfErr result (TablesRefuse tables.now) }
+{
+    match double_table(alloc, tables)? {
+        Some(line) => Err(ProgramFault::At {
+            line,
+            what: What::DoubleName,
+        }),
+        None => Ok(()),
     }
 }
 
