@@ -6,9 +6,10 @@ use Rattle.program_tokens.specs.steps.Front.{is_plain, sees}
 use Rattle.program_tokens.specs.declared.token.Token.{Token}
 use Rattle.program_tokens.specs.steps.Parsers.{expect, separated, ◌>>◌}
 use Rattle.program_tokens.specs.Pieces.{Piece, end, name, plain}
-use Rattle.function_language.specs.steps.Reading.{begins_function, distance_function, function, functions, keyed, map_function, only_functions, param, partition_function, reduce_function, stream, tail}
+use Rattle.function_language.specs.steps.Reading.{begins_function, body, compared, distance_function, function, functions, head, map_function, only_functions, param, partition_function, reduce_function, stream, tail}
 use Rattle.function_language.specs.Spelled.{block_pieces, function_pieces, functions_pieces, out_pieces, param_pieces, stream_pieces}
 use Rattle.program_tokens.specs.Pieces.{some_comma_separated}
+use Rattle.function_language.specs.declared.function.Head.{Head}
 use Rattle.function_language.specs.declared.function.Tail.{Tail}
 use Rattle.function_language.specs.declared.tree.Function.{Function}
 use Rattle.function_language.specs.declared.tree.Function.TheVariants as a_function
@@ -48,14 +49,19 @@ streams_right : Right (Exactly (λ ss. some_comma_separated (map stream_pieces s
 streams_right = separated_right stream_pieces Free (Unseen (codes ",")) stream (stream_right Free) stream_some (λ token tokens fits. tt) (λ rest stop. tt) (λ rest stop. stop)
 
 -- how a name and a key are spelled, with the marks behind them
-abbrev keyed_pieces : List ℕ → Ident × Param → List Piece
-keyed_pieces mark c = name c.0 ∷ plain (codes "(") ∷ (param_pieces c.1 ++ plain mark ∷ [])
+abbrev head_pieces : List ℕ → Head → List Piece
+head_pieces mark h = name h.name ∷ plain (codes "(") ∷ (param_pieces h.key ++ plain mark ∷ [])
 
 -- they are read right
-keyed_right : (mark : List ℕ) → Right (Exactly (keyed_pieces mark)) Free (keyed mark)
-unfolding keyed
-keyed_right mark = exactly (keyed_pieces mark) (λ c. c) (λ c. refl) (λ c. refl)
-    (free_part {make = λ (c : Ident × Param). c} (named_before (codes "(") Free) (λ i. last_part (λ key. (i, key)) (free_before mark param_pieces Free param (param_right Free))))
+head_right : (mark : List ℕ) → Right (Exactly (head_pieces mark)) Free (head mark)
+unfolding head
+head_right mark = exactly (head_pieces mark) (λ h. (h.name, h.key)) (λ h. refl) (λ c. refl)
+    (free_part {make = λ (c : Ident × Param). record { name = c.0; key = c.1 }} (named_before (codes "(") Free) (λ i. last_part (λ key. record { name = i; key = key }) (free_before mark param_pieces Free param (param_right Free))))
+
+-- a body
+body_right : Right (Exactly (block_pieces 32)) Free body
+unfolding body
+body_right = block_right 32 Free
 
 -- how what is emitted, and the body, are spelled
 abbrev tail_pieces : Tail → List Piece
@@ -66,7 +72,7 @@ tail_right : Right (Exactly tail_pieces) Free tail
 unfolding tail
 tail_right = exactly tail_pieces (λ t. (t.arrow, (t.out.kinds, t.body))) (λ t. refl) (λ c. refl)
     (free_part {make = λ (c : ℕ × (List Kind × List Statement)). record { arrow = c.0; out = record { kinds = c.1.0 }; body = c.1.1 }} (expect_line_right (codes "->") Free)
-    (λ arrow. free_part (kinds_right Free) (λ out. last_part (λ body. record { arrow = arrow; out = record { kinds = out }; body = body }) (block_right 32 Free))))
+    (λ arrow. free_part (kinds_right Free) (λ out. last_part (λ body. record { arrow = arrow; out = record { kinds = out }; body = body }) body_right)))
 
 -- a `map`
 abbrev Mapped : Spells Function
@@ -82,39 +88,48 @@ map_right = word_then (codes "map") (free_part {make = λ (c : Ident × (List Pa
 
 -- a `reduce`
 abbrev Reduced : Spells Function
-Reduced = Made {C = (Ident × Param) × (List Stream × Tail)} (λ c. a_function.Reduce c.0.0 c.0.1 c.1.0 c.1.1.arrow c.1.1.out c.1.1.body)
-    (λ c. plain (codes "reduce") ∷ (keyed_pieces (codes ";") c.0 ++ ((some_comma_separated (map stream_pieces c.1.0) ++ plain (codes ")") ∷ []) ++ tail_pieces c.1.1)))
+Reduced = Made {C = Head × (List Stream × Tail)} (λ c. a_function.Reduce c.0.name c.0.key c.1.0 c.1.1.arrow c.1.1.out c.1.1.body)
+    (λ c. plain (codes "reduce") ∷ (head_pieces (codes ";") c.0 ++ ((some_comma_separated (map stream_pieces c.1.0) ++ plain (codes ")") ∷ []) ++ tail_pieces c.1.1)))
 
 -- a `reduce` is read right
 reduce_right : Right Reduced Free (expect (codes "reduce") >> reduce_function)
 unfolding reduce_function
-reduce_right = word_then (codes "reduce") (free_part {make = λ (c : (Ident × Param) × (List Stream × Tail)). a_function.Reduce c.0.0 c.0.1 c.1.0 c.1.1.arrow c.1.1.out c.1.1.body} (keyed_right (codes ";"))
-    (λ head. free_part {make = λ (c : List Stream × Tail). a_function.Reduce head.0 head.1 c.0 c.1.arrow c.1.out c.1.body} (unseen_before (codes ")") (λ ss. some_comma_separated (map stream_pieces ss)) Free (separated stream) (codes ",") refl streams_right)
-    (λ ss. last_part (λ t. a_function.Reduce head.0 head.1 ss t.arrow t.out t.body) tail_right)))
+reduce_right = word_then (codes "reduce") (free_part {make = λ (c : Head × (List Stream × Tail)). a_function.Reduce c.0.name c.0.key c.1.0 c.1.1.arrow c.1.1.out c.1.1.body} (head_right (codes ";"))
+    (λ head. free_part {make = λ (c : List Stream × Tail). a_function.Reduce head.name head.key c.0 c.1.arrow c.1.out c.1.body} (unseen_before (codes ")") (λ ss. some_comma_separated (map stream_pieces ss)) Free (separated stream) (codes ",") refl streams_right)
+    (λ ss. last_part (λ t. a_function.Reduce head.name head.key ss t.arrow t.out t.body) tail_right)))
+
+-- how the two streams of a distance are spelled
+abbrev compared_pieces : Stream × Stream → List Piece
+compared_pieces c = (stream_pieces c.0 ++ plain (codes ",") ∷ []) ++ (stream_pieces c.1 ++ plain (codes ")") ∷ [])
+
+-- they are read right
+compared_right : Right (Exactly compared_pieces) Free compared
+unfolding compared
+compared_right = exactly compared_pieces (λ c. c) (λ c. refl) (λ c. refl)
+    (free_part {make = λ (c : Stream × Stream). c} (free_before (codes ",") stream_pieces Free stream (stream_right Free)) (λ old. last_part (λ new. (old, new)) (free_before (codes ")") stream_pieces Free stream (stream_right Free))))
 
 -- a `distance`
 abbrev Measured : Spells Function
-Measured = Made {C = (Ident × Param) × (Stream × (Stream × List Statement))} (λ c. a_function.Distance c.0.0 c.0.1 c.1.0 c.1.1.0 c.1.1.1)
-    (λ c. plain (codes "distance") ∷ (keyed_pieces (codes ";") c.0 ++ ((stream_pieces c.1.0 ++ plain (codes ",") ∷ []) ++ ((stream_pieces c.1.1.0 ++ plain (codes ")") ∷ []) ++ block_pieces 32 c.1.1.1))))
+Measured = Made {C = Head × ((Stream × Stream) × List Statement)} (λ c. a_function.Distance c.0.name c.0.key c.1.0.0 c.1.0.1 c.1.1)
+    (λ c. plain (codes "distance") ∷ (head_pieces (codes ";") c.0 ++ (compared_pieces c.1.0 ++ block_pieces 32 c.1.1)))
 
 -- a `distance` is read right
 distance_right : Right Measured Free (expect (codes "distance") >> distance_function)
 unfolding distance_function
-distance_right = word_then (codes "distance") (free_part {make = λ (c : (Ident × Param) × (Stream × (Stream × List Statement))). a_function.Distance c.0.0 c.0.1 c.1.0 c.1.1.0 c.1.1.1} (keyed_right (codes ";"))
-    (λ head. free_part {make = λ (c : Stream × (Stream × List Statement)). a_function.Distance head.0 head.1 c.0 c.1.0 c.1.1} (free_before (codes ",") stream_pieces Free stream (stream_right Free))
-    (λ old. free_part {make = λ (c : Stream × List Statement). a_function.Distance head.0 head.1 old c.0 c.1} (free_before (codes ")") stream_pieces Free stream (stream_right Free))
-    (λ new. last_part (λ body. a_function.Distance head.0 head.1 old new body) (block_right 32 Free)))))
+distance_right = word_then (codes "distance") (free_part {make = λ (c : Head × ((Stream × Stream) × List Statement)). a_function.Distance c.0.name c.0.key c.1.0.0 c.1.0.1 c.1.1} (head_right (codes ";"))
+    (λ head. free_part {make = λ (c : (Stream × Stream) × List Statement). a_function.Distance head.name head.key c.0.0 c.0.1 c.1} compared_right
+    (λ streams. last_part (λ body. a_function.Distance head.name head.key streams.0 streams.1 body) body_right)))
 
 -- a `partition`
 abbrev Parted : Spells Function
-Parted = Made {C = (Ident × Param) × List Statement} (λ c. a_function.Partition c.0.0 c.0.1 c.1)
-    (λ c. plain (codes "partition") ∷ (keyed_pieces (codes ")") c.0 ++ block_pieces 32 c.1))
+Parted = Made {C = Head × List Statement} (λ c. a_function.Partition c.0.name c.0.key c.1)
+    (λ c. plain (codes "partition") ∷ (head_pieces (codes ")") c.0 ++ block_pieces 32 c.1))
 
 -- a `partition` is read right
 partition_right : Right Parted Free (expect (codes "partition") >> partition_function)
 unfolding partition_function
-partition_right = word_then (codes "partition") (free_part {make = λ (c : (Ident × Param) × List Statement). a_function.Partition c.0.0 c.0.1 c.1} (keyed_right (codes ")"))
-    (λ head. last_part (λ body. a_function.Partition head.0 head.1 body) (block_right 32 Free)))
+partition_right = word_then (codes "partition") (free_part {make = λ (c : Head × List Statement). a_function.Partition c.0.name c.0.key c.1} (head_right (codes ")"))
+    (λ head. last_part (λ body. a_function.Partition head.name head.key body) body_right))
 
 -- ---- the choice between them
 
@@ -162,29 +177,30 @@ regrouped one mark next close others =
 
 -- a `reduce`, as its reader takes it apart
 reduce_spelled : (i : Ident) (key : Param) (ss : List Stream) (arrow : ℕ) (out : Row) (body : List Statement) → function_pieces (a_function.Reduce i key ss arrow out body)
-    ≡ plain (codes "reduce") ∷ (keyed_pieces (codes ";") (i, key) ++ ((some_comma_separated (map stream_pieces ss) ++ plain (codes ")") ∷ []) ++ out_pieces arrow out body))
+    ≡ plain (codes "reduce") ∷ (head_pieces (codes ";") (record { name = i; key = key }) ++ ((some_comma_separated (map stream_pieces ss) ++ plain (codes ")") ∷ []) ++ out_pieces arrow out body))
 reduce_spelled i key ss arrow out body = ap (λ pieces. plain (codes "reduce") ∷ name i ∷ plain (codes "(") ∷ pieces) (regrouped (param_pieces key) (codes ";") (some_comma_separated (map stream_pieces ss)) (codes ")") (out_pieces arrow out body))
 
 -- a `distance`, as its reader takes it apart
 distance_spelled : (i : Ident) (key : Param) (old new : Stream) (body : List Statement) → function_pieces (a_function.Distance i key old new body)
-    ≡ plain (codes "distance") ∷ (keyed_pieces (codes ";") (i, key) ++ ((stream_pieces old ++ plain (codes ",") ∷ []) ++ ((stream_pieces new ++ plain (codes ")") ∷ []) ++ block_pieces 32 body)))
+    ≡ plain (codes "distance") ∷ (head_pieces (codes ";") (record { name = i; key = key }) ++ (compared_pieces (old, new) ++ block_pieces 32 body))
 distance_spelled i key old new body = ap (λ pieces. plain (codes "distance") ∷ name i ∷ plain (codes "(") ∷ pieces) (
     regrouped (param_pieces key ++ plain (codes ";") ∷ stream_pieces old) (codes ",") (stream_pieces new) (codes ")") (block_pieces 32 body)
-    ∙ regrouped (param_pieces key) (codes ";") (stream_pieces old) (codes ",") ((stream_pieces new ++ plain (codes ")") ∷ []) ++ block_pieces 32 body))
+    ∙ regrouped (param_pieces key) (codes ";") (stream_pieces old) (codes ",") ((stream_pieces new ++ plain (codes ")") ∷ []) ++ block_pieces 32 body)
+    ∙ ap (λ pieces. (param_pieces key ++ plain (codes ";") ∷ []) ++ pieces) (sym (append_assoc (stream_pieces old ++ plain (codes ",") ∷ []) (stream_pieces new ++ plain (codes ")") ∷ []) (block_pieces 32 body))))
 
 -- one of the kinds of functions is a function
 function_to : (f : Function) (pieces : List Piece) → Functions f pieces → pieces ≡ function_pieces f
 function_to f pieces (inl m) = m.as_parts ∙ ap function_pieces (sym m.made)
-function_to f pieces (inr (inl m)) = m.as_parts ∙ sym (reduce_spelled m.parts.0.0 m.parts.0.1 m.parts.1.0 m.parts.1.1.arrow m.parts.1.1.out m.parts.1.1.body) ∙ ap function_pieces (sym m.made)
-function_to f pieces (inr (inr (inl m))) = m.as_parts ∙ sym (distance_spelled m.parts.0.0 m.parts.0.1 m.parts.1.0 m.parts.1.1.0 m.parts.1.1.1) ∙ ap function_pieces (sym m.made)
+function_to f pieces (inr (inl m)) = m.as_parts ∙ sym (reduce_spelled m.parts.0.name m.parts.0.key m.parts.1.0 m.parts.1.1.arrow m.parts.1.1.out m.parts.1.1.body) ∙ ap function_pieces (sym m.made)
+function_to f pieces (inr (inr (inl m))) = m.as_parts ∙ sym (distance_spelled m.parts.0.name m.parts.0.key m.parts.1.0.0 m.parts.1.0.1 m.parts.1.1) ∙ ap function_pieces (sym m.made)
 function_to f pieces (inr (inr (inr m))) = m.as_parts ∙ ap function_pieces (sym m.made)
 
 -- a function is one of the kinds of functions
 function_from : (f : Function) (pieces : List Piece) → pieces ≡ function_pieces f → Functions f pieces
 function_from (a_function.Map i ps arrow out body) pieces e = inl (record { parts = (i, (ps, record { arrow = arrow; out = out; body = body })); made = refl; as_parts = e })
-function_from (a_function.Reduce i key ss arrow out body) pieces e = inr (inl (record { parts = ((i, key), (ss, record { arrow = arrow; out = out; body = body })); made = refl; as_parts = e ∙ reduce_spelled i key ss arrow out body }))
-function_from (a_function.Distance i key old new body) pieces e = inr (inr (inl (record { parts = ((i, key), (old, (new, body))); made = refl; as_parts = e ∙ distance_spelled i key old new body })))
-function_from (a_function.Partition i key body) pieces e = inr (inr (inr (record { parts = ((i, key), body); made = refl; as_parts = e })))
+function_from (a_function.Reduce i key ss arrow out body) pieces e = inr (inl (record { parts = (record { name = i; key = key }, (ss, record { arrow = arrow; out = out; body = body })); made = refl; as_parts = e ∙ reduce_spelled i key ss arrow out body }))
+function_from (a_function.Distance i key old new body) pieces e = inr (inr (inl (record { parts = (record { name = i; key = key }, ((old, new), body)); made = refl; as_parts = e ∙ distance_spelled i key old new body })))
+function_from (a_function.Partition i key body) pieces e = inr (inr (inr (record { parts = (record { name = i; key = key }, body); made = refl; as_parts = e })))
 
 -- a function
 pub function_right : Right (Exactly function_pieces) Free function

@@ -4,7 +4,7 @@ ghost use Rattle.function_language.specs.steps.Reading as reading;
 
 use crate::signature::{before, listed};
 use crate::statement::block;
-use crate::tree::{Block, Function, Param, Row, Tree};
+use crate::tree::{Block, Function, Param, Row, Stream, Tree};
 use program_tokens::{
     Ident, Item, Repeated, SyntaxFault, Tokens, eat, expect, expect_line, kinds, read_repeated,
 };
@@ -13,6 +13,13 @@ use std::alloc::Global;
 
 /// How many blocks and calls may be open at once. docs/LANGUAGE.md, "Functions".
 pub const DEPTH: u32 = 32;
+
+/// The name of a function and its key.
+#[derive(Drop)]
+struct Head {
+    name: Ident,
+    key: Param,
+}
 
 /// What a function emits, behind an arrow in this line, and its body.
 #[derive(Drop)]
@@ -82,13 +89,13 @@ fn map_function(alloc: Global, tokens: &mut Tokens) -> Result<Function, SyntaxFa
 {
     let name = before(alloc, tokens, b"(")?;
     let params = listed(alloc, tokens)?;
-    let Tail { arrow, out, body } = read_tail(alloc, tokens)?;
+    let tail = read_tail(alloc, tokens)?;
     Ok(Function::Map {
         name,
         params,
-        arrow,
-        out,
-        body,
+        arrow: tail.arrow,
+        out: tail.out,
+        body: tail.body,
     })
 }
 
@@ -97,16 +104,16 @@ fn map_function(alloc: Global, tokens: &mut Tokens) -> Result<Function, SyntaxFa
 fn reduce_function(alloc: Global, tokens: &mut Tokens) -> Result<Function, SyntaxFault>
     ensures { Reads (reading.reduce_function tokens.old) result tokens.new }
 {
-    let (name, key) = keyed(alloc, tokens, b";")?;
+    let head = read_head(alloc, tokens, b";")?;
     let streams = listed(alloc, tokens)?;
-    let Tail { arrow, out, body } = read_tail(alloc, tokens)?;
+    let tail = read_tail(alloc, tokens)?;
     Ok(Function::Reduce {
-        name,
-        key,
+        name: head.name,
+        key: head.key,
         streams,
-        arrow,
-        out,
-        body,
+        arrow: tail.arrow,
+        out: tail.out,
+        body: tail.body,
     })
 }
 
@@ -115,15 +122,14 @@ fn reduce_function(alloc: Global, tokens: &mut Tokens) -> Result<Function, Synta
 fn distance_function(alloc: Global, tokens: &mut Tokens) -> Result<Function, SyntaxFault>
     ensures { Reads (reading.distance_function tokens.old) result tokens.new }
 {
-    let (name, key) = keyed(alloc, tokens, b";")?;
-    let old = before(alloc, tokens, b",")?;
-    let new = before(alloc, tokens, b")")?;
-    let body = block(alloc, tokens, DEPTH)?;
+    let head = read_head(alloc, tokens, b";")?;
+    let streams = compared(alloc, tokens)?;
+    let body = body(alloc, tokens)?;
     Ok(Function::Distance {
-        name,
-        key,
-        before: old,
-        after: new,
+        name: head.name,
+        key: head.key,
+        before: streams.0,
+        after: streams.1,
         body,
     })
 }
@@ -133,19 +139,33 @@ fn distance_function(alloc: Global, tokens: &mut Tokens) -> Result<Function, Syn
 fn partition_function(alloc: Global, tokens: &mut Tokens) -> Result<Function, SyntaxFault>
     ensures { Reads (reading.partition_function tokens.old) result tokens.new }
 {
-    let (name, key) = keyed(alloc, tokens, b")")?;
-    let body = block(alloc, tokens, DEPTH)?;
-    Ok(Function::Partition { name, key, body })
+    let head = read_head(alloc, tokens, b")")?;
+    let body = body(alloc, tokens)?;
+    Ok(Function::Partition {
+        name: head.name,
+        key: head.key,
+        body,
+    })
 }
 
 /// Reads the name of a function and its key, and the mark behind this.
-#[tactic(auto, unfolding(crate::specs::steps::Reading::keyed))]
-fn keyed(alloc: Global, tokens: &mut Tokens, mark: &[u8]) -> Result<(Ident, Param), SyntaxFault>
-    ensures { Reads (reading.keyed mark.now tokens.old) result tokens.new }
+#[tactic(auto, unfolding(crate::specs::steps::Reading::head))]
+fn read_head(alloc: Global, tokens: &mut Tokens, mark: &[u8]) -> Result<Head, SyntaxFault>
+    ensures { Reads (reading.head mark.now tokens.old) result tokens.new }
 {
     let name = before(alloc, tokens, b"(")?;
     let key = before(alloc, tokens, mark)?;
-    Ok((name, key))
+    Ok(Head { name, key })
+}
+
+/// Reads the two streams of a distance, and the `)` behind them.
+#[tactic(auto, unfolding(crate::specs::steps::Reading::compared))]
+fn compared(alloc: Global, tokens: &mut Tokens) -> Result<(Stream, Stream), SyntaxFault>
+    ensures { Reads (reading.compared tokens.old) result tokens.new }
+{
+    let old = before(alloc, tokens, b",")?;
+    let new = before(alloc, tokens, b")")?;
+    Ok((old, new))
 }
 
 /// Reads what a function emits, and its body.
@@ -155,10 +175,18 @@ fn read_tail(alloc: Global, tokens: &mut Tokens) -> Result<Tail, SyntaxFault>
 {
     let arrow = expect_line(alloc, tokens, b"->")?;
     let kinds = kinds(alloc, tokens)?;
-    let body = block(alloc, tokens, DEPTH)?;
+    let body = body(alloc, tokens)?;
     Ok(Tail {
         arrow,
         out: Row { kinds },
         body,
     })
+}
+
+/// Reads the body of a function.
+#[tactic(auto, unfolding(crate::specs::steps::Reading::body))]
+fn body(alloc: Global, tokens: &mut Tokens) -> Result<Block, SyntaxFault>
+    ensures { Reads (reading.body tokens.old) result tokens.new }
+{
+    block(alloc, tokens, DEPTH)
 }

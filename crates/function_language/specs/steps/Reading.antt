@@ -12,6 +12,7 @@ use Rattle.function_language.specs.declared.tree.Expr.{Expr}
 use Rattle.function_language.specs.declared.tree.Expr.TheVariants as an_expr
 use Rattle.function_language.specs.declared.tree.Statement.{Statement}
 use Rattle.function_language.specs.declared.tree.Statement.TheVariants as a_statement
+use Rattle.function_language.specs.declared.function.Head.{Head}
 use Rattle.function_language.specs.declared.function.Tail.{Tail}
 use Rattle.function_language.specs.declared.tree.Function.{Function}
 use Rattle.function_language.specs.declared.tree.Function.TheVariants as a_function
@@ -177,19 +178,23 @@ block (suc depth) = expect (codes "{") >> statements (statement_of (expr depth) 
 
 -- ---- functions
 
+-- the body of a function
+unfoldable pub body : Parser (List Statement)
+body = block 32
+
 -- a name, and a key with the mark behind it
-unfoldable pub keyed : List ℕ → Parser (Ident × Param)
-keyed mark = do
+unfoldable pub head : List ℕ → Parser Head
+head mark = do
   name ← before (codes "(") ident
   key ← before mark param
-  pure (name, key)
+  pure (record { name = name; key = key })
 
 -- what a function emits, and its body
 unfoldable pub tail : Parser Tail
 tail = do
   arrow ← expect_line (codes "->")
   out ← kinds
-  body ← block 32
+  body ← body
   pure (record { arrow = arrow; out = record { kinds = out }; body = body })
 
 unfoldable pub map_function : Parser Function
@@ -201,24 +206,30 @@ map_function = do
 
 unfoldable pub reduce_function : Parser Function
 reduce_function = do
-  head ← keyed (codes ";")
+  head ← head (codes ";")
   streams ← before (codes ")") (separated stream)
   rest ← tail
-  pure (a_function.Reduce head.0 head.1 streams rest.arrow rest.out rest.body)
+  pure (a_function.Reduce head.name head.key streams rest.arrow rest.out rest.body)
+
+-- the two streams of a distance, up to `)`
+unfoldable pub compared : Parser (Stream × Stream)
+compared = do
+  old ← before (codes ",") stream
+  new ← before (codes ")") stream
+  pure (old, new)
 
 unfoldable pub distance_function : Parser Function
 distance_function = do
-  head ← keyed (codes ";")
-  old ← before (codes ",") stream
-  new ← before (codes ")") stream
-  body ← block 32
-  pure (a_function.Distance head.0 head.1 old new body)
+  head ← head (codes ";")
+  streams ← compared
+  body ← body
+  pure (a_function.Distance head.name head.key streams.0 streams.1 body)
 
 unfoldable pub partition_function : Parser Function
 partition_function = do
-  head ← keyed (codes ")")
-  body ← block 32
-  pure (a_function.Partition head.0 head.1 body)
+  head ← head (codes ")")
+  body ← body
+  pure (a_function.Partition head.name head.key body)
 
 unfoldable pub function : Parser Function
 function = do
