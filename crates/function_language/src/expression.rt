@@ -3,6 +3,7 @@ ghost use Rattle.program_tokens.specs.steps.Parsers as parsers;
 ghost use Rattle.program_tokens.specs.steps.Parsers.{Reads, closed, separated};
 ghost use Rattle.function_language.specs.steps.Reading as reading;
 
+use crate::signature::marked;
 use crate::tree::{Expr, Exprs};
 use program_tokens::{Ident, Lexeme, SyntaxFault, Token, Tokens, eat, expect, ident, refused};
 use sqlite_items::Items;
@@ -88,8 +89,7 @@ pub(crate) fn expr_before(
     ensures { Reads (reading.before word.now (reading.expr depth) tokens.old) result tokens.new }
 {
     let found = expr(alloc, tokens, depth)?;
-    expect(alloc, tokens, word)?;
-    Ok(found)
+    marked(alloc, tokens, word, found)
 }
 
 /// Reads an expression between parentheses.

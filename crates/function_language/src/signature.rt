@@ -30,6 +30,19 @@ impl Item for Stream {
     }
 }
 
+/// Reads the word or mark behind what was found.
+pub(crate) fn marked<T: Drop>(
+    alloc: Global,
+    tokens: &mut Tokens,
+    word: &[u8],
+    found: T,
+) -> Result<T, SyntaxFault>
+    ensures { Reads (reading.marked word.now found tokens.old) result tokens.new }
+{
+    expect(alloc, tokens, word)?;
+    Ok(found)
+}
+
 /// Reads an item and the word or mark behind it.
 #[tactic(auto, unfolding(crate::specs::steps::Reading::before))]
 pub(crate) fn before<T: Item>(
@@ -40,8 +53,7 @@ pub(crate) fn before<T: Item>(
     ensures { Reads (reading.before word.now T.reader tokens.old) result tokens.new }
 {
     let found = T::read(alloc, tokens)?;
-    expect(alloc, tokens, word)?;
-    Ok(found)
+    marked(alloc, tokens, word, found)
 }
 
 /// Reads one item or more, with commas between, and the `)` behind them.
@@ -50,8 +62,7 @@ pub(crate) fn listed<T: Item>(alloc: Global, tokens: &mut Tokens) -> Result<Item
     ensures { Reads (reading.before (codes ")") (separated T.reader) tokens.old) result tokens.new }
 {
     let found = separated(alloc, tokens)?;
-    expect(alloc, tokens, b")")?;
-    Ok(found)
+    marked(alloc, tokens, b")", found)
 }
 
 /// Reads the name and the kind of a parameter.

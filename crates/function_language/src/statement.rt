@@ -4,7 +4,7 @@ ghost use Rattle.program_tokens.specs.steps.Parsers.{Reads};
 ghost use Rattle.function_language.specs.steps.Reading as reading;
 
 use crate::expression::{arguments, enclosed, expr_before};
-use crate::signature::before;
+use crate::signature::{before, marked};
 use crate::tree::{Block, Statement};
 use program_tokens::{SyntaxFault, Tokens, closed, eat, expect, ident, refused};
 use sqlite_items::Items;
@@ -147,8 +147,7 @@ fn emit_statement(
 {
     expect(alloc, tokens, b"(")?;
     let args = arguments(alloc, tokens, depth)?;
-    expect(alloc, tokens, b";")?;
-    Ok(Statement::Emit { line, args })
+    marked(alloc, tokens, b";", Statement::Emit { line, args })
 }
 
 /// Reads a `give` behind the word, which stands in this line.
@@ -162,6 +161,5 @@ fn give_statement(
     ensures { Reads (reading.give_statement (reading.expr depth) line tokens.old) result tokens.new }
 {
     let value = enclosed(alloc, tokens, depth)?;
-    expect(alloc, tokens, b";")?;
-    Ok(Statement::Give { line, value })
+    marked(alloc, tokens, b";", Statement::Give { line, value })
 }

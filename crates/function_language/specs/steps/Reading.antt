@@ -20,12 +20,17 @@ use Rattle.program_tokens.specs.steps.Parsers.{Parser, kind, kinds, ◌>>=◌, �
 
 -- ---- parameters and streams
 
+-- the word or mark behind what was found
+abbrev pub marked : {A : Type 0} → List ℕ → A → Parser A
+marked word found = do
+  expect word
+  pure found
+
 -- something, and the word or mark behind it
 unfoldable pub before : {A : Type 0} → List ℕ → Parser A → Parser A
 before word item = do
   found ← item
-  expect word
-  pure found
+  marked word found
 
 unfoldable pub param : Parser Param
 param = do
