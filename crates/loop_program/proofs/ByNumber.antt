@@ -1,8 +1,7 @@
 -- What typed steps keep, by their numbers.
-use Rattle.std.proofs.Common.{ℕ, zero, suc, ◌≡◌, true, false, List, [], ◌∷◌, length, Option, None, Some, refl, sym, ◌∙◌, ap, subst, arith, slice_get, ◌≤◌}
+use Rattle.std.proofs.Common.{ℕ, zero, suc, ◌≡◌, true, false, List, [], ◌∷◌, length, Option, Some, refl, sym, ◌∙◌, ap, subst, arith, slice_get, ◌≤◌}
 use Rattle.std.specs.List.{AllByRecursion}
 use Rattle.std.specs.Option.{option_and_then, option_map, option_map_or}
-use Rattle.std.proofs.lemmas.Bool.{false≢true}
 use Rattle.std.proofs.lemmas.Option.{none-some, option_and_then_some}
 use Rattle.function_language.specs.declared.tree.Function.{Function as Written}
 use Rattle.hal_base.specs.declared.fields.Schema.{Schema}
@@ -11,14 +10,12 @@ use Rattle.hal_base.specs.declared.shape.Origin.TheVariants.{State, Prev, Table}
 use Rattle.hal_base.specs.declared.shape.Shape.{Shape}
 use Rattle.hal_base.specs.declared.shape.Source.{Source}
 use Rattle.hal_base.specs.declared.shape.Step.{Step}
-use Rattle.hal_base.specs.Shapes.{MayBeKept, key_kind, nth, out_schema, source_at, state_schema, step_at, taken}
-use Rattle.type_checker.specs.Uses.{key_kept, map_at, partition_at, reduce_at, round_used}
+use Rattle.hal_base.specs.Shapes.{key_kind, nth, out_schema, source_at, state_schema, step_at, taken}
+use Rattle.type_checker.specs.Uses.{map_at, partition_at, reduce_at}
 use Rattle.type_checker.specs.declared.uses.Use.{Use}
-use Rattle.type_checker.specs.declared.uses.Use.TheVariants.{Default}
 use Rattle.type_checker.specs.declared.uses.UseStep.{UseStep}
 use Rattle.type_checker.specs.declared.uses.Uses.{Uses}
-use Rattle.loop_program.specs.Rules.{UsesFit}
-use Rattle.loop_program.specs.Schemas.{distance_takes, last_schema, map_makes, partition_takes, reduce_makes, schema_read}
+use Rattle.loop_program.specs.Schemas.{last_schema, map_makes, partition_takes, reduce_makes, schema_read}
 use Rattle.loop_program.proofs.KeptSchemas.{SourceIsTyped, SourcesAreTyped, StepIsTyped, StepsAreTyped}
 
 some_same : {A : Type 0} {a b : A} → Some a ≡ Some b → a ≡ b

@@ -4,8 +4,9 @@ use Rattle.std.specs.List.{AllByRecursion}
 use Rattle.program_sketch.specs.declared.fault.What.{What}
 use Rattle.program_sketch.specs.declared.fault.ProgramFault.{ProgramFault}
 use Rattle.type_checker.proofs.Binding.{bind_ok, then_ok}
-use Rattle.loop_program.specs.Found.{Found, demand, each, fine, or_wrong}
+use Rattle.loop_program.specs.Found.{Found, demand, each, or_wrong}
 use Rattle.loop_program.specs.Limits.{expect, few}
+use Rattle.type_checker.specs.Checked.{fine}
 
 pub no_fault : {A : Type 0} (fault : ProgramFault) (a : A) → Err fault ≡ Ok a → ⊥
 no_fault fault a e = cc

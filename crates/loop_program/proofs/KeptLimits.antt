@@ -13,11 +13,12 @@ use Rattle.program_sketch.specs.declared.sketch.TableSketch.{TableSketch}
 use Rattle.loop_program.specs.declared.places.NamedSource.{NamedSource}
 use Rattle.loop_program.specs.declared.places.NamedStep.{NamedStep}
 use Rattle.loop_program.specs.declared.typing.TypedSketch.{TypedSketch}
-use Rattle.loop_program.specs.Found.{each, fine}
+use Rattle.loop_program.specs.Found.{each}
 use Rattle.loop_program.specs.Limits.{counts, few, function_line, function_within, input_line, input_within, is_count, limits, only_within, step_line, step_within, table_line, table_within}
 use Rattle.loop_program.specs.Places.{count_of, input_named, map_named, only_of, partition_named, reduce_named, step_named, steps_named, table_named}
 use Rattle.type_checker.proofs.Binding.{bind_ok, then_ok}
 use Rattle.loop_program.proofs.Chains.{each_length, expected, few_length, few_within, ok_same}
+use Rattle.type_checker.specs.Checked.{fine}
 
 -- ---- numbers
 

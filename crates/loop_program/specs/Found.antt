@@ -1,6 +1,6 @@
 -- What is found, or the first fault.
 use Rattle.std.specs.Prelude.{ℕ, Bool, cond, List, [], ◌∷◌, Option, None, Some, Result, Ok, Err}
-use Rattle.type_checker.specs.Checked.{◌>>=◌}
+use Rattle.type_checker.specs.Checked.{fine, ◌>>=◌}
 use Rattle.program_sketch.specs.declared.fault.What.{What}
 use Rattle.program_sketch.specs.declared.fault.ProgramFault.{ProgramFault}
 use Rattle.program_sketch.specs.declared.fault.ProgramFault.TheVariants.{At}
@@ -8,10 +8,6 @@ use Rattle.program_sketch.specs.declared.fault.ProgramFault.TheVariants.{At}
 -- something, or what is wrong in which line
 abbrev pub Found : Type 0 → Type 0
 Found A = Result A ProgramFault
-
--- no fault
-abbrev pub fine : Found (Unit {0})
-fine = Ok tt
 
 -- this is wrong in this line, unless the test passes
 abbrev pub demand : Bool → ℕ → What → Found (Unit {0})

@@ -11,8 +11,8 @@ use Rattle.program_sketch.specs.declared.sketch.InputSketch.{InputSketch}
 use Rattle.program_sketch.specs.declared.sketch.StepSketch.{StepSketch}
 use Rattle.program_sketch.specs.declared.sketch.TableSketch.{TableSketch}
 use Rattle.loop_program.specs.declared.typing.TypedSketch.{TypedSketch}
-use Rattle.type_checker.specs.Checked.{◌>>◌}
-use Rattle.loop_program.specs.Found.{Found, fine}
+use Rattle.type_checker.specs.Checked.{◌>>◌, fine}
+use Rattle.loop_program.specs.Found.{Found}
 
 -- a limit is broken in this line
 abbrev pub refused : ℕ → Found (Unit {0})

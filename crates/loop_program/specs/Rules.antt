@@ -1,5 +1,5 @@
 -- What every program keeps that is accepted.
-use Rattle.std.specs.Prelude.{◌≡◌, ℕ, true, false, List, Option, Some, length}
+use Rattle.std.specs.Prelude.{◌≡◌, ℕ, true, false, List, Some, length}
 use Rattle.std.specs.List.{AllByRecursion}
 use Rattle.std.specs.Option.{option_and_then, option_map_or}
 use Rattle.hal_base.specs.declared.fields.Schema.{Schema}
@@ -14,10 +14,10 @@ use Rattle.type_checker.specs.Functions.{AreTyped}
 use Rattle.type_checker.specs.declared.uses.Use.{Use}
 use Rattle.type_checker.specs.declared.uses.Use.TheVariants.{Default}
 use Rattle.type_checker.specs.declared.uses.Uses.{Uses}
-use Rattle.loop_program.specs.Found.{fine}
 use Rattle.loop_program.specs.Limits.{few, function_line, function_within}
 use Rattle.loop_program.specs.Schemas.{distance_takes, map_makes, partition_takes, reduce_makes}
 use Rattle.loop_program.specs.Whole.{Whole}
+use Rattle.type_checker.specs.Checked.{fine}
 
 -- the functions that the steps use, and the distance, fit the shape
 pub record UsesFit (functions : List Written) (uses : Uses) (shape : Shape) : Type 0 where

@@ -1,5 +1,5 @@
 -- The map of a source makes records of its stream.
-use Rattle.std.proofs.Common.{◌≡◌, ℕ, zero, suc, ◌≤◌, Bool, true, false, cond, List, [], ◌∷◌, Option, None, Some, Ok, length, map, nat_le, refl, sym, ap, subst, slice_get}
+use Rattle.std.proofs.Common.{◌≡◌, ℕ, ◌≤◌, Bool, true, false, cond, List, [], ◌∷◌, Option, None, Some, Ok, length, map, nat_le, refl, sym, ap, subst, slice_get}
 use Rattle.std.specs.List.{AllByRecursion}
 use Rattle.std.specs.Option.{option_and_then}
 use Rattle.std.proofs.lemmas.Bool.{and_parts, leb-true}
@@ -18,12 +18,12 @@ use Rattle.function_meaning.specs.Functions.{map_emits}
 use Rattle.function_meaning.specs.Meanings.{map_used}
 use Rattle.function_meaning.specs.Optional.{◌>>=◌, or_none}
 use Rattle.function_meaning.specs.NeverStops.{GoesRight, IsOfKinds, MakeARecord, NeverStops}
-use Rattle.loop_program.specs.Found.{fine}
 use Rattle.loop_program.specs.Limits.{expect, function_within, make_a_record}
 use Rattle.loop_program.specs.Schemas.{are_params, kind_taken, map_makes, own_map_makes, schema_of}
 use Rattle.type_checker.proofs.Binding.{then_ok}
 use Rattle.loop_program.proofs.Chains.{expected}
 use Rattle.loop_program.proofs.KeptSchemas.{one_list}
+use Rattle.type_checker.specs.Checked.{fine}
 
 -- ---- what is missing
 

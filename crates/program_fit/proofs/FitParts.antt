@@ -1,5 +1,5 @@
 -- Each key has a part, and the default distance is that of the exact stop.
-use Rattle.std.proofs.Common.{◌≡◌, ℕ, ◌<◌, ◌≤◌, true, List, [], Option, None, Some, pos, negsuc, ap, arith, slice_get}
+use Rattle.std.proofs.Common.{◌≡◌, ℕ, ◌<◌, ◌≤◌, List, [], Option, None, Some, pos, negsuc, ap, arith, slice_get}
 use Rattle.hal_base.specs.declared.value.Value.{Value}
 use Rattle.hal_base.specs.declared.value.Value.TheVariants.{Int, Text}
 use Rattle.hal_base.specs.Parts.{default_part}

@@ -1,5 +1,5 @@
 -- The reduce of a step makes records of its output.
-use Rattle.std.proofs.Common.{◌≡◌, ℕ, ◌≤◌, Bool, true, false, cond, List, [], ◌∷◌, ◌++◌, Option, None, Some, length, map, refl, sym, subst, ◌∙◌}
+use Rattle.std.proofs.Common.{◌≡◌, ℕ, ◌≤◌, Bool, true, false, cond, List, [], ◌∷◌, Option, None, Some, length, map, refl, sym, subst}
 use Rattle.std.specs.List.{AllByRecursion, flat_map, list_all}
 use Rattle.std.specs.Ordering.{is_le}
 use Rattle.std.specs.Cmp.Lexicographic.{slice_cmp}
@@ -7,7 +7,6 @@ use Rattle.std.proofs.lemmas.Bool.{and_parts, false≢true}
 use Rattle.std.proofs.lemmas.Option.{none-some}
 use Rattle.hal_base.specs.Order.{value_cmp}
 use Rattle.hal_base.specs.declared.fields.Schema.{Schema}
-use Rattle.hal_base.specs.declared.record.Record.{Record}
 use Rattle.hal_base.specs.declared.shape.Origin.{Origin}
 use Rattle.hal_base.specs.declared.shape.Source.{Source}
 use Rattle.hal_base.specs.declared.value.Kind.{Kind}
@@ -30,13 +29,13 @@ use Rattle.function_meaning.specs.Functions.{reduce_emits}
 use Rattle.function_meaning.specs.Meanings.{reduce_used}
 use Rattle.function_meaning.specs.Optional.{◌>>=◌, or_none}
 use Rattle.function_meaning.specs.NeverStops.{AreGroupsOf, IsOfKinds, MakeARecord, NeverStops}
-use Rattle.loop_program.specs.Found.{fine}
 use Rattle.loop_program.specs.Limits.{expect, few, function_within, make_a_record, stream_line, stream_within}
 use Rattle.loop_program.specs.Schemas.{are_streams, hop_from, hop_makes, is_stream, one_schema, own_reduce_makes, reduce_makes, same_kinds, same_schema, schema_of}
 use Rattle.type_checker.proofs.Binding.{then_ok}
 use Rattle.loop_program.proofs.KeptSchemas.{one_kind, one_list}
 use Rattle.loop_program.proofs.KeptSchemas as kept
 use Rattle.program_fit.proofs.FitMaps.{function_there, makes_record, right_or_none, rows_of_schema, some_same, tested}
+use Rattle.type_checker.specs.Checked.{fine}
 
 -- ---- all streams of one schema
 

@@ -1,7 +1,6 @@
 -- The functions of an accepted program fit its shape.
-use Rattle.std.proofs.Common.{◌≡◌, ℕ, zero, suc, ◌≤◌, ◌<◌, List, Option, Some, sym, subst, arith}
+use Rattle.std.proofs.Common.{◌≡◌, ℕ, zero, suc, ◌≤◌, List, Option, Some, sym, subst, arith}
 use Rattle.std.specs.List.{AllByRecursion}
-use Rattle.std.specs.Option.{option_and_then}
 use Rattle.std.proofs.lemmas.Option.{none-some, option_and_then_some}
 use Rattle.hal_base.specs.declared.fields.Schema.{Schema}
 use Rattle.hal_base.specs.declared.record.Record.{Record}
@@ -23,15 +22,15 @@ use Rattle.function_meaning.specs.Meanings.{map_used, meaning_of, reduce_used}
 use Rattle.function_meaning.specs.Optional.{◌>>=◌, or_none}
 use Rattle.function_meaning.specs.NeverStops.{NeverStops}
 use Rattle.function_meaning.proofs.NeverStopping.{typed_functions_never_stop}
-use Rattle.loop_program.specs.Found.{fine}
 use Rattle.loop_program.specs.Limits.{function_line, function_within}
-use Rattle.loop_program.specs.Rules.{KeepsRules, UsesFit}
+use Rattle.loop_program.specs.Rules.{UsesFit}
 use Rattle.loop_program.specs.Schemas.{map_makes, reduce_makes}
 use Rattle.loop_program.proofs.Chains.{few_within}
 use Rattle.program_fit.specs.Fit.{ProgramsFit}
 use Rattle.program_fit.proofs.FitMaps.{map_fits}
 use Rattle.program_fit.proofs.FitParts.{default_distance, used_within}
 use Rattle.program_fit.proofs.FitReduces.{reduce_fits}
+use Rattle.type_checker.specs.Checked.{fine}
 
 module _ (functions : List Written) (uses : Uses) (shape : Shape) (never : AllByRecursion NeverStops functions) (within : AllByRecursion (λ (f : Written). function_within f ≡ fine) functions) (well : IsWellFormed shape) (fits : UsesFit functions uses shape) where
   early : (i : ℕ) → i ≤ shape.rounds → i ≤ 10000
