@@ -1,5 +1,5 @@
 -- The distance of two rounds of the chain.
-use Rattle.std.proofs.Common.{◌≡◌, ℕ, ◌<◌, ◌≤◌, zero, suc, false, true, List, [], ◌∷◌, Some, refl, sym, ap, ◌∙◌, subst, min, sum, length, arith}
+use Rattle.std.proofs.Common.{◌≡◌, ℕ, false, true, List, Some, sym, ap, ◌∙◌, subst, min, sum, length}
 use Rattle.std.specs.List.{AllByRecursion}
 use Rattle.hal_base.specs.declared.fields.Schema.{Schema}
 use Rattle.hal_base.specs.declared.record.Record.{Record}

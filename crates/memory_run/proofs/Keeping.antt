@@ -1,8 +1,7 @@
 -- Sections that are made once serve in each round.
-use Rattle.std.proofs.Common.{◌≡◌, ℕ, zero, suc, ◌+◌, ◌<◌, ◌==◌, Bool, false, cond, List, [], ◌∷◌, ◌++◌, None, refl, ap, ◌∙◌, subst, map, length, get_or, arith}
+use Rattle.std.proofs.Common.{◌≡◌, ℕ, ◌+◌, ◌<◌, false, List, None, ap, ◌∙◌, subst, map, length, get_or, arith}
 use Rattle.std.proofs.Math.ListN.{set}
 use Rattle.std.proofs.lemmas.List.{length-set}
-use Rattle.hal_base.specs.declared.value.Value.{Value}
 use Rattle.hal_base.specs.declared.record.Record.{Record}
 use Rattle.hal_base.specs.declared.shape.Origin.{Origin}
 use Rattle.hal_base.specs.declared.shape.Origin.TheVariants.{Table}
@@ -10,8 +9,6 @@ use Rattle.hal_base.specs.declared.shape.Source.{Source}
 use Rattle.hal_base.specs.declared.shape.Step.{Step}
 use Rattle.hal_base.specs.declared.shape.Shape.{Shape}
 use Rattle.hal_base.specs.Meaning.{Meaning, RoundLaw}
-use Rattle.hal_base.specs.Order.{record_cmp}
-use Rattle.hal_base.specs.Sorted.{sorted}
 use Rattle.hal_base.specs.Shapes.{MayBeKept}
 use Rattle.plain_job.specs.Sections.{source_section}
 use Rattle.plain_job.proofs.Numbers.{map_same}

@@ -1,5 +1,5 @@
 -- The chain by numbers.
-use Rattle.std.proofs.Common.{◌≡◌, ℕ, zero, suc, ◌+◌, ◌<◌, ◌≤◌, List, [], ◌∷◌, refl, sym, ap, ◌∙◌, map, length, arith, None, Some, Option}
+use Rattle.std.proofs.Common.{◌≡◌, ℕ, zero, suc, ◌+◌, ◌<◌, ◌≤◌, List, [], ◌∷◌, refl, sym, ap, ◌∙◌, map, length, arith, None, Some}
 use Rattle.std.specs.List.{slice_get}
 use Rattle.std.specs.Option.{option_and_then}
 use Rattle.std.proofs.lemmas.List.{append-nil}
@@ -11,7 +11,7 @@ use Rattle.hal_base.specs.declared.shape.Shape.{Shape}
 use Rattle.hal_base.specs.Meaning.{Meaning}
 use Rattle.hal_base.specs.Shapes.{nth, source_at, step_at}
 use Rattle.plain_job.specs.Job.{stream}
-use Rattle.plain_job.specs.Chain.{last_out, numbers_from, out, part_out, parts_by, parts_from, parts_of, rows_read, source_rows, state_of, stream_of, streams, table_at, together}
+use Rattle.plain_job.specs.Chain.{last_out, numbers_from, out, part_out, parts_by, parts_of, rows_read, source_rows, state_of, stream_of, streams, table_at, together}
 use Rattle.plain_job.specs.ChainLaws.{ChainsAreByNumbers, source_numbers}
 use Rattle.plain_job.proofs.Numbers.{all_numbers, at_number, length_numbers, map_same, nth_behind, nth_first, nth_is}
 

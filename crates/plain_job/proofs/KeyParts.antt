@@ -1,5 +1,5 @@
 -- Each key in its part, and the distance of two rounds by their parts.
-use Rattle.std.proofs.Common.{◌≡◌, ℕ, zero, suc, ◌+◌, ◌≤◌, ◌==◌, Bool, true, false, cond, List, [], ◌∷◌, ◌++◌, refl, sym, ap, ◌∙◌, map, min, sum, length, arith, None, Some, Option}
+use Rattle.std.proofs.Common.{◌≡◌, ℕ, zero, suc, ◌+◌, ◌≤◌, ◌==◌, Bool, true, false, cond, List, [], ◌∷◌, refl, sym, ap, ◌∙◌, map, length, arith, None, Some, Option}
 use Rattle.std.specs.List.{AllByRecursion, filter, flat_map}
 use Rattle.std.proofs.lemmas.Bool.{eqb-true}
 use Rattle.hal_base.specs.declared.value.Value.{Value}
@@ -11,7 +11,7 @@ use Rattle.hal_base.specs.Shapes.{step_at}
 use Rattle.plain_job.specs.Job.{group, keys}
 use Rattle.plain_job.specs.Chain.{last_out, numbers_from, part_out, parts_by, parts_from, source_rows, streams, together}
 use Rattle.plain_job.specs.ChainLaws.{KeysStandInTheirParts, PartsMakeTheDistance}
-use Rattle.plain_job.specs.Distances.{EachIn, distance_by, part_distances}
+use Rattle.plain_job.specs.Distances.{EachIn}
 use Rattle.plain_job.proofs.DistanceParts.{parts_sum}
 use Rattle.plain_job.proofs.Lists.{all_both, all_weaker}
 use Rattle.plain_job.proofs.Numbers.{length_numbers}

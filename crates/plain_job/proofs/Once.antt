@@ -1,5 +1,5 @@
 -- A chain ends in one round, in one way.
-use Rattle.std.proofs.Common.{◌≡◌, ◌⊎◌, ℕ, ◌<◌, ◌≤◌, List, refl, sym, ap, ◌∙◌, inl, inr, map, subst, arith}
+use Rattle.std.proofs.Common.{◌≡◌, ◌⊎◌, ℕ, ◌<◌, List, refl, sym, ap, ◌∙◌, inl, inr, map, subst, arith}
 use Rattle.std.proofs.lemmas.Bool.{cases_order}
 use Rattle.hal_base.specs.declared.record.Record.{Record}
 use Rattle.hal_base.specs.declared.shape.Shape.{Shape}
@@ -9,7 +9,7 @@ use Rattle.plain_job.specs.declared.ending.End.{End}
 use Rattle.plain_job.specs.declared.ending.End.TheVariants.{Fixpoint, Close, Limit}
 use Rattle.plain_job.specs.Chain.{last_out}
 use Rattle.plain_job.specs.ChainLaws.{ChainsAreOne}
-use Rattle.plain_job.specs.Ends.{Ends, EndsBy, Reaches, round_distance}
+use Rattle.plain_job.specs.Ends.{Ends, EndsBy, Reaches}
 
 module _ (m : Meaning) (shape : Shape) (tables : List (List Record)) where
   -- a chain that ends in a round does not come to a later one

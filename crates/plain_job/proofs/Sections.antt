@@ -1,10 +1,9 @@
 -- The sections of streams.
-use Rattle.std.proofs.Common.{◌≡◌, ℕ, ◌==◌, Bool, true, cond, List, [], ◌∷◌, ◌++◌, refl, sym, ap, ◌∙◌, map}
+use Rattle.std.proofs.Common.{◌≡◌, ◌==◌, Bool, true, cond, List, [], ◌∷◌, ◌++◌, refl, sym, ap, ◌∙◌, map}
 use Rattle.std.proofs.lemmas.List.Elements.{filter-append}
 use Rattle.std.proofs.lemmas.List.Concat.{flat_map-append}
 use Rattle.hal_base.specs.declared.value.Value.{Value}
 use Rattle.hal_base.specs.declared.record.Record.{Record}
-use Rattle.hal_base.specs.Meaning.{Meaning, RoundLaw}
 use Rattle.hal_base.specs.Laws.{record_cmp_total, record_cmp_exact}
 use Rattle.hal_base.specs.Order.{record_cmp}
 use Rattle.hal_base.specs.Sorted.{sorted}

@@ -1,18 +1,14 @@
 -- The distance that functions tell is that of the chain, where they fit.
-use Rattle.std.proofs.Common.{◌≡◌, ℕ, true, false, List, [], ◌∷◌, Some, refl, ap, ◌∙◌, map, min, sum}
+use Rattle.std.proofs.Common.{◌≡◌, ℕ, true, false, List, [], ◌∷◌, refl, ap, ◌∙◌, map, min, sum}
 use Rattle.std.specs.List.{AllByRecursion}
 use Rattle.hal_base.specs.declared.fields.Schema.{Schema}
 use Rattle.hal_base.specs.declared.record.Record.{Record}
-use Rattle.hal_base.specs.declared.shape.Shape.{Shape}
-use Rattle.hal_base.specs.declared.value.Value.{Value}
 use Rattle.hal_base.specs.Laws.{value_cmp_total}
-use Rattle.hal_base.specs.Meaning.{Meaning}
 use Rattle.hal_base.specs.Values.{IsRecordOf}
 use Rattle.hal_base.proofs.Strict.{all_distinct}
-use Rattle.hal_base.specs.Shapes.{state_schema}
 use Rattle.plain_job.specs.ChainLaws.{FunctionsTellTheDistance}
-use Rattle.plain_job.specs.Distances.{differ, distance, distance_by, key_distance}
-use Rattle.plain_job.specs.Fit.{AreRecordsOf, FunctionsFit, IsKeyOf}
+use Rattle.plain_job.specs.Distances.{differ, distance_by, key_distance}
+use Rattle.plain_job.specs.Fit.{AreRecordsOf, IsKeyOf}
 use Rattle.plain_job.specs.Job.{group, key_of, keys}
 use Rattle.plain_job.proofs.Lists.{all_both, all_mapped}
 use Rattle.plain_job.proofs.Schemas.{group_fits}

@@ -1,5 +1,5 @@
 -- Laws of chains: the chain by numbers, its one end, its distances part by part, and the schemas of what it leaves.
-use Rattle.std.specs.Prelude.{◌≡◌, ℕ, ◌+◌, ◌<◌, ◌≤◌, min, sum, true, false, List, Option, Some, length, map}
+use Rattle.std.specs.Prelude.{◌≡◌, ℕ, ◌+◌, ◌<◌, ◌≤◌, min, sum, true, false, List, Some, length, map}
 use Rattle.std.specs.List.{AllByRecursion}
 use Rattle.hal_base.specs.declared.fields.Schema.{Schema}
 use Rattle.hal_base.specs.declared.record.Record.{Record}
@@ -12,7 +12,7 @@ use Rattle.hal_base.specs.Shapes.{IsWellFormed, out_schema, source_at, state_sch
 use Rattle.plain_job.specs.declared.ending.End.{End}
 use Rattle.plain_job.specs.Chain.{last_out, numbers_from, out, part_out, parts_of, source_list, state_of, stream_of, table_at, together}
 use Rattle.plain_job.specs.Distances.{EachIn, distance, distance_by, part_distances}
-use Rattle.plain_job.specs.Ends.{Ends, IsChain, Reaches, round_distance}
+use Rattle.plain_job.specs.Ends.{IsChain}
 use Rattle.plain_job.specs.Fit.{AreRecordsOf, FunctionsFit, TablesFit}
 
 -- the numbers of the sources of a step

@@ -1,7 +1,5 @@
 -- What a step takes of its streams for each part: the records of the part, in order.
 use Rattle.std.specs.Prelude.{◌≡◌, ◌==◌, ℕ, true, false, List, map}
-use Rattle.std.specs.List.{filter}
-use Rattle.hal_base.specs.declared.value.Value.{Value}
 use Rattle.hal_base.specs.declared.record.Record.{Record}
 use Rattle.hal_base.specs.Meaning.{Meaning, RoundLaw}
 use Rattle.hal_base.specs.Order.{record_cmp}

@@ -1,14 +1,13 @@
 -- The steps of the chain in memory, for their contracts alone.
-use Rattle.std.specs.Prelude.{◌≡◌, ◌==◌, ℕ, List, [], ◌∷◌, map, Option, None, Some}
+use Rattle.std.specs.Prelude.{◌==◌, ℕ, List, [], ◌∷◌, map, Option, None, Some}
 use Rattle.hal_base.specs.declared.record.Record.{Record}
-use Rattle.hal_base.specs.declared.shape.Shape.{Shape}
 use Rattle.hal_base.specs.Meaning.{Meaning}
 use Rattle.hal_base.specs.Order.{record_cmp}
 use Rattle.hal_base.specs.Sorted.{sorted}
 use Rattle.plain_job.specs.declared.ending.End.{End}
 use Rattle.plain_job.specs.declared.ending.End.TheVariants as end
 use Rattle.plain_job.specs.Laws.{part}
-use Rattle.plain_job.specs.Chain.{numbers_from, part_out}
+use Rattle.plain_job.specs.Chain.{numbers_from}
 use Rattle.fixpoint_test.specs.declared.decision.Next.{Next}
 use Rattle.fixpoint_test.specs.declared.decision.Next.TheVariants as next
 use Rattle.memory_run.specs.declared.sections.Spill.{Spill}
