@@ -1,0 +1,65 @@
+-- The copies as the table keeps them: a list for each name.
+use Rattle.std.specs.Prelude.{ℕ, ◌+◌, ◌<◌, ◌≤◌, ◌==◌, nat_lt, if◌then◌else◌, List, [], ◌∷◌, length, map, Option, None, Some}
+use Rattle.std.specs.List.{flat_map, AllByRecursion, IsDistinct}
+use Rattle.std.specs.Map.{keys_of, lookup}
+use Rattle.std.specs.declared.alloc.Global.{Global}
+use Rattle.std.specs.declared.vec.Vec.{Vec}
+use Rattle.node_names.specs.declared.digest.Digest.{Digest}
+use Rattle.node_names.specs.declared.name.Name.{Name}
+use Rattle.replica_table.specs.Copies.{Copy, copy_at, is_name}
+use Rattle.replica_table.specs.declared.copied.Copied.{Copied}
+
+-- ---- the copies of one name
+
+abbrev pub copy_of : Name → Copied → Copy
+copy_of name copied = copy_at name copied.node copied.digest
+
+abbrev pub nodes_in : List Copied → List ℕ
+nodes_in copies = map (λ copied. copied.node) copies
+
+-- the digest of the copy on a node
+abbrev pub found : ℕ → List Copied → Option Digest
+found node [] = None
+found node (copied ∷ copies) = if node == copied.node then Some copied.digest else found node copies
+
+-- the copies but for the first, if it is on this node
+abbrev pub behind : ℕ → List Copied → List Copied
+behind node [] = []
+behind node (copied ∷ copies) = if node == copied.node then copies else copied ∷ copies
+
+-- the copies and one more: behind those on lower nodes, in the place of the one on its node
+abbrev pub placed : Copied → List Copied → List Copied
+placed new [] = new ∷ []
+placed new (copied ∷ copies) = if nat_lt copied.node new.node then copied ∷ placed new copies else new ∷ behind new.node (copied ∷ copies)
+
+-- strictly ascending numbers, from a first one on and below an end
+abbrev pub Ascend : ℕ → ℕ → List ℕ → Type 0
+Ascend first end [] = Unit {0}
+Ascend first end (n ∷ ns) = (first ≤ n) × (n < end) × Ascend (n + 1) end ns
+
+-- ---- the copies of all names
+
+abbrev pub Entries : Type 0
+Entries = List (Name × Vec Copied Global)
+
+abbrev pub copies_in : Entries → List Copy
+copies_in entries = flat_map (λ e. map (copy_of e.0) e.1.items) entries
+
+abbrev pub items_of : Option (Vec Copied Global) → List Copied
+items_of None = []
+items_of (Some list) = list.items
+
+-- the copies of a name
+abbrev pub listed : Name → Entries → List Copied
+listed name entries = items_of (lookup (is_name name) entries)
+
+-- a name has a copy, and its nodes ascend
+pub record IsListed (nodes : ℕ) (entry : Name × Vec Copied Global) : Type 0 where
+  pub held : 0 < length entry.1.items
+  pub ascending : Ascend 0 nodes (nodes_in entry.1.items)
+
+-- what holds of the entries of a table of so many nodes
+pub record IsKept (nodes : ℕ) (entries : Entries) : Type 0 where
+  pub few : nodes ≤ 64
+  pub each : AllByRecursion (IsListed nodes) entries
+  pub once : IsDistinct is_name (keys_of entries)

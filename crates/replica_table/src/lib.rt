@@ -1,0 +1,11 @@
+//! Which nodes of a cluster are up, and which of them holds a copy of which file.
+#![tactic(auto)]
+
+mod copied;
+mod node_set;
+mod placing;
+mod table;
+
+pub use node_set::NodeSet;
+pub use placing::place;
+pub use table::Table;
