@@ -1,0 +1,5 @@
+pub mod BlockLaws
+pub mod Blocks
+pub mod Decoded
+pub mod Pieces
+pub mod steps
