@@ -65,6 +65,10 @@ but_file name node copies = filter (λ copy. not (is_at name node copy)) copies
 abbrev pub but_node : ℕ → List Copy → List Copy
 but_node node copies = filter (λ copy. not (node == copy.node)) copies
 
+-- the copies but for those on some nodes of the names that pass a test
+abbrev pub but_those : (Name → Bool) → List ℕ → List Copy → List Copy
+but_those test nodes copies = filter (λ copy. not (test copy.name && among copy.node nodes)) copies
+
 -- a new copy among those of its name, which come next: behind those on lower nodes, in the place of the one on its node
 abbrev pub among_its_own : Copy → List Copy → List Copy
 among_its_own new [] = new ∷ []

@@ -1,7 +1,7 @@
 ghost use Rattle.std.specs.Prelude.{◌≡◌, ℕ, ◌<◌, ◌==◌, ◌&&◌, ◌∷◌, not, nat_lt, length, All, IfOk, IfSome, IfNone};
 ghost use Rattle.std.specs.List.{filter};
 ghost use Rattle.replica_table.specs.Copies.{is_name};
-ghost use Rattle.replica_table.specs.Sets.{members};
+ghost use Rattle.replica_table.specs.Sets.{among, members};
 ghost use Rattle.replica_table.specs.steps.Entries.{Ascend, behind, found, nodes_in, placed};
 
 use crate::node_set::{NodeSet, with_bit};
@@ -110,6 +110,19 @@ pub fn take_of(list: &mut Vec<Copied>, same: bool, node: u32) -> bool
         |copied: &Copied| -> bool
             ensures { result ≡ not (same && node == copied.now.node) }
         { !(same && node == copied.node) },
+    );
+    list.len() > 0
+}
+
+/// Takes the copies on some nodes out, if they are of a name that is meant, and tells whether others are left.
+pub fn take_those(list: &mut Vec<Copied>, meant: bool, nodes: NodeSet) -> bool
+    ensures left { list.new.items ≡ filter (λ copied. not (meant && among copied.node (members nodes.0))) list.old.items }
+    ensures some { result ≡ nat_lt 0 (length list.new.items) }
+{
+    list.retain(
+        |copied: &Copied| -> bool
+            ensures { result ≡ not (meant && among copied.now.node (members nodes.0)) }
+        { !(meant && nodes.has(copied.node)) },
     );
     list.len() > 0
 }

@@ -2,10 +2,12 @@
 #![tactic(auto)]
 
 mod copied;
+mod name_test;
 mod node_set;
 mod placing;
 mod table;
 
+pub use name_test::NameTest;
 pub use node_set::NodeSet;
 pub use placing::place;
 pub use table::Table;

@@ -3,11 +3,14 @@ ghost use Rattle.std.specs.List.{filter, range_with_len};
 ghost use Rattle.std.specs.Option.{option_copied};
 ghost use Rattle.std.specs.Ordering.{nat_cmp};
 ghost use Rattle.hal_base.specs.Sorted.{joined};
-ghost use Rattle.replica_table.specs.Copies.{Replicas, but_file, but_node, copy_at, held, holders, is_name, names_of, with_copy};
+ghost use Rattle.replica_table.specs.Copies.{Replicas, but_file, but_node, but_those, copy_at, held, holders, is_name, names_of, with_copy};
 ghost use Rattle.replica_table.specs.Sets.{among, but_one, members};
 ghost use Rattle.replica_table.specs.steps.Entries.{listed};
 
-use crate::copied::{Copied, digest_on, nodes_of, same_names, take_node, take_of, with_copied};
+use crate::copied::{
+    Copied, digest_on, nodes_of, same_names, take_node, take_of, take_those, with_copied,
+};
+use crate::name_test::NameTest;
 use crate::node_set::NodeSet;
 use hal_base::Memory;
 use indexmap::IndexMap;
@@ -79,6 +82,17 @@ impl Table {
             |other: &Name, list: &mut Vec<Copied>| -> bool
                 ensures { (list.new.items ≡ filter (λ copied. not (is_name name.entry.now other.now && node == copied.node)) list.old.items) × (result ≡ nat_lt 0 (length list.new.items)) }
             { take_of(list, same_names(name, other), node) },
+        );
+    }
+
+    /// No node of a set holds a copy any more of a file whose name passes the test.
+    pub fn strike_those<T: NameTest>(&mut self, nodes: NodeSet, test: &T)
+        ensures { self.new ≡ record self.old { copies = but_those (T.test test.now) (members nodes.0) self.old.copies } }
+    {
+        self.copies.retain(
+            |name: &Name, list: &mut Vec<Copied>| -> bool
+                ensures { (list.new.items ≡ filter (λ copied. not (T.test test.entry.now name.now && among copied.node (members nodes.0))) list.old.items) × (result ≡ nat_lt 0 (length list.new.items)) }
+            { take_those(list, test.passes(name), nodes) },
         );
     }
 
