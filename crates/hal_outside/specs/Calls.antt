@@ -1,9 +1,10 @@
 -- What calls on files and on a sink leave, over the ghost members of each as one thing.
-use Rattle.std.specs.Prelude.{◌≡◌, ◌≤◌, ◌++◌, List, ℕ, Option, None, Some}
+use Rattle.std.specs.Prelude.{◌≡◌, ◌≤◌, ◌++◌, List, ℕ, Some}
 use Rattle.std.specs.Option.{option_map}
 use Rattle.hal_outside.specs.declared.files.Files.{Ghosts as Files}
 use Rattle.hal_outside.specs.declared.sink.Sink.{Ghosts as Sink}
 use Rattle.hal_outside.specs.Told.{FileMap, Rose, AfterFailedAppend}
+pub use Rattle.hal_outside.specs.Told.{OnTold}
 
 -- a device failed a call on files
 abbrev pub FaultsRose : {F : Type 0} → Files F → F → F → Type 0
@@ -24,12 +25,6 @@ OnlyReads g old new = CountsStay g old new × (g.told new ≡ g.told old)
 -- the files tell that they are these
 abbrev pub Tells : {F : Type 0} → Files F → F → FileMap → Type 0
 Tells g files told = g.told files ≡ Some told
-
--- a relation of what files told before and after, where they tell
-abbrev pub OnTold : (FileMap → FileMap → Type 0) → Option FileMap → Option FileMap → Type 0
-OnTold P None after = after ≡ None
-OnTold P (Some before) None = ⊥
-OnTold P (Some before) (Some after) = P before after
 
 -- where they tell, the files were changed so
 abbrev pub Changes : {F : Type 0} → Files F → (FileMap → FileMap → Type 0) → F → F → Type 0

@@ -27,3 +27,9 @@ AfterFailedWrite (Some files) name bytes now = (now ≡ Some files) ⊎ ((n : �
 abbrev pub AfterFailedAppend : Option (List ℕ) → List ℕ → Option (List ℕ) → Type 0
 AfterFailedAppend None bytes now = now ≡ None
 AfterFailedAppend (Some held) bytes now = (n : ℕ) × (now ≡ Some (held ++ take n bytes))
+
+-- a relation of what was told before and after, where it is told
+abbrev pub OnTold : {A : Type 0} → (A → A → Type 0) → Option A → Option A → Type 0
+OnTold P None after = after ≡ None
+OnTold P (Some before) None = ⊥
+OnTold P (Some before) (Some after) = P before after

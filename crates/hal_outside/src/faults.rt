@@ -48,3 +48,35 @@ pub enum SinkFault {
     #[error("memory")]
     Memory,
 }
+
+/// Why a call on disks failed.
+#[derive(Clone, Copy, Debug, Error)]
+pub enum DiskFault {
+    #[error("{0}")]
+    Device(DeviceFault),
+    #[error("memory")]
+    Memory,
+}
+
+impl From<Memory> for DiskFault {
+    ghost use Rattle.hal_outside.specs.declared.faults.DiskFault.TheVariants as disk;
+
+    ghost from_gives = { λ _ fault. fault ≡ disk.Memory };
+
+    fn from(_error: Memory) -> DiskFault {
+        DiskFault::Memory
+    }
+}
+
+impl From<FileFault> for DiskFault {
+    ghost use Rattle.hal_outside.specs.Faults.{disk_fault_of};
+
+    ghost from_gives = { λ file fault. fault ≡ disk_fault_of file };
+
+    fn from(fault: FileFault) -> DiskFault {
+        match fault {
+            FileFault::Device(device) => DiskFault::Device(device),
+            FileFault::Memory => DiskFault::Memory,
+        }
+    }
+}
