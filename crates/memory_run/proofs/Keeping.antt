@@ -14,7 +14,7 @@ use Rattle.plain_job.specs.Sections.{source_section}
 use Rattle.plain_job.proofs.Numbers.{map_same}
 use Rattle.plain_job.proofs.Sections.{sections_serve_each_round}
 use Rattle.plain_job.specs.Chain.{numbers_from, source_rows, table_at}
-use Rattle.partition_shuffle.specs.Spills.{spilled}
+use Rattle.sorted_parts.specs.Spills.{spilled}
 use Rattle.memory_run.specs.declared.inputs.Input.{Input}
 use Rattle.memory_run.specs.declared.inputs.Input.TheVariants.{Kept, Read}
 use Rattle.memory_run.specs.steps.Inputs.{FewInEach, FewInputs, Serve, ServeStep, Serves}

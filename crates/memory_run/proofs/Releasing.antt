@@ -11,7 +11,7 @@ use Rattle.hal_base.specs.declared.shape.Step.{Step}
 use Rattle.hal_base.specs.declared.shape.Shape.{Shape}
 use Rattle.hal_base.specs.Meaning.{Meaning}
 use Rattle.plain_job.specs.Chain.{parts_from, source_rows, table_at}
-use Rattle.partition_shuffle.specs.Spills.{spilled}
+use Rattle.sorted_parts.specs.Spills.{spilled}
 use Rattle.memory_run.specs.declared.inputs.Input.{Input}
 use Rattle.memory_run.specs.declared.inputs.Input.TheVariants.{Kept, Read}
 use Rattle.memory_run.specs.steps.Inputs.{AllBeside, Serve, ServeStep, ServeSteps, Serves, ReadsStateOnce, emptied, plan_made, reads, with_made}

@@ -10,7 +10,7 @@ use Rattle.hal_base.specs.Meaning.{Meaning}
 use Rattle.plain_job.specs.Job.{job, stream}
 use Rattle.hal_base.specs.Shapes.{HasFewSources}
 use Rattle.plain_job.specs.Chain.{numbers_from, part_out, source_rows, parts_from, step_out, streams, together}
-use Rattle.partition_shuffle.specs.Spills.{spilled}
+use Rattle.sorted_parts.specs.Spills.{spilled}
 use Rattle.memory_run.specs.declared.inputs.Input.{Input}
 use Rattle.memory_run.specs.declared.inputs.Input.TheVariants.{Kept, Read}
 use Rattle.memory_run.specs.steps.Sections.{sections}

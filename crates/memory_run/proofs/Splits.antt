@@ -8,9 +8,9 @@ use Rattle.hal_base.specs.Order.{record_cmp}
 use Rattle.hal_base.specs.Sorted.{sorted}
 use Rattle.plain_job.specs.Job.{stream}
 use Rattle.plain_job.specs.Chain.{together}
-use Rattle.partition_shuffle.specs.Spills.{spilled}
-use Rattle.partition_shuffle.specs.steps.Dealt.{dealt}
-use Rattle.partition_shuffle.proofs.Dealing.{length-dealt, dealt_twice, dealt_end, dealt_sorted}
+use Rattle.sorted_parts.specs.Spills.{spilled}
+use Rattle.sorted_parts.specs.steps.Dealt.{dealt}
+use Rattle.sorted_parts.proofs.Dealing.{length-dealt, dealt_twice, dealt_end, dealt_sorted}
 
 -- a map that emits each record as it is emits the records
 pub stream_same : (means : Record → List Record) (rows : List Record) → ((row : Record) → means row ≡ row ∷ []) → stream means rows ≡ rows

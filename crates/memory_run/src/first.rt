@@ -2,7 +2,7 @@ ghost use Rattle.std.specs.Prelude.{◌≡◌, true, List, length, IfOk, OnOk};
 ghost use Rattle.hal_base.specs.Shapes.{IsWellFormed};
 ghost use Rattle.hal_base.specs.declared.record.Record.{Record as Row};
 ghost use Rattle.plain_job.specs.Chain.{parts_from, table_at};
-ghost use Rattle.partition_shuffle.specs.Spills.{spilled};
+ghost use Rattle.sorted_parts.specs.Spills.{spilled};
 ghost use Rattle.memory_run.specs.steps.Inputs.{FewInEach, Serve, ReadsStateOnce};
 
 use crate::inputs::{StepInputs, any_reads, is_read};
@@ -11,7 +11,7 @@ use crate::round::round_out;
 use crate::sections::Sections;
 use crate::sources::{RoundContext, table_splits};
 use hal_base::{Functions, Memory, Origin, Parts, Records, Shape};
-use partition_shuffle::spill;
+use sorted_parts::spill;
 use std::alloc::Global;
 
 /// The parts that the last step leaves in the first round, whose state is the start table. The table

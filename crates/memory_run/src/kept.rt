@@ -5,7 +5,7 @@ ghost use Rattle.hal_base.specs.declared.shape.Origin.{Origin as Place};
 ghost use Rattle.hal_base.specs.declared.shape.Origin.TheVariants as origin;
 ghost use Rattle.hal_base.specs.declared.shape.Source.{Source};
 ghost use Rattle.plain_job.specs.Chain.{table_at};
-ghost use Rattle.partition_shuffle.specs.Spills.{spilled};
+ghost use Rattle.sorted_parts.specs.Spills.{spilled};
 ghost use Rattle.memory_run.specs.declared.inputs.Input.TheVariants as given;
 ghost use Rattle.memory_run.specs.steps.Inputs.{FewInEach, FewInputs, Serve, ServeStep, Serves};
 
@@ -13,7 +13,7 @@ use crate::inputs::{Input, StepInputs, all_read};
 use crate::release::release;
 use crate::sections::Sections;
 use hal_base::{Functions, Memory, Origin, Records, Shape};
-use partition_shuffle::spill;
+use sorted_parts::spill;
 use std::alloc::Global;
 
 /// A table of a program, with its number.

@@ -6,7 +6,7 @@ ghost use Rattle.memory_run.specs.steps.Sections.{first_section, later_sections,
 
 use crate::streams::Stream;
 use hal_base::{Memory, Parts, Records, SortedSlice};
-use partition_shuffle::{Merged, SpillBuilder, merge};
+use sorted_parts::{Merged, SpillBuilder, merge};
 use std::alloc::Global;
 use std::collections::VecDeque;
 use std::marker::Model;

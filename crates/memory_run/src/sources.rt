@@ -2,15 +2,15 @@ ghost use Rattle.std.specs.Prelude.{◌≡◌, ◌≤◌, [], map, IfOk, OnOk, l
 ghost use Rattle.hal_base.specs.Shapes.{IsWellFormed};
 ghost use Rattle.plain_job.specs.Chain.{source_rows, table_at, together};
 ghost use Rattle.plain_job.specs.Job.{stream};
-ghost use Rattle.partition_shuffle.specs.Spills.{spilled};
-ghost use Rattle.partition_shuffle.specs.steps.Dealt.{dealt};
+ghost use Rattle.sorted_parts.specs.Spills.{spilled};
+ghost use Rattle.sorted_parts.specs.steps.Dealt.{dealt};
 ghost use Rattle.memory_run.specs.steps.Sections.{left_of};
 ghost use Rattle.memory_run.specs.steps.Inputs.{FewInputs, all_given, given, with_first};
 
 use crate::inputs::Input;
 use crate::sections::{Sections, Spill};
 use hal_base::{Functions, Memory, Origin, Parts, Records, Shape};
-use partition_shuffle::SpillBuilder;
+use sorted_parts::SpillBuilder;
 use std::alloc::Global;
 
 /// What stays the same in a round. The state is in splits, and so is each other source.

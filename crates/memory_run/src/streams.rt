@@ -1,7 +1,7 @@
 ghost use Rattle.memory_run.specs.steps.Sections.{rows_of};
 
 use hal_base::{Memory, Record, SortedSlice, SortedStream};
-use partition_shuffle::Merged;
+use sorted_parts::Merged;
 use std::alloc::Global;
 
 /// The records of a section: its own, which are moved out, or lent ones, which are copied.

@@ -1,2 +1,6 @@
-pub mod Dealing
-pub mod Merging
+pub mod Behind
+pub mod ExactSections
+pub mod Exits
+pub mod Neighbours
+pub mod Picking
+pub mod Spilled

@@ -1,2 +1,3 @@
-pub mod Spills
+pub mod SpillLaws
+pub mod SpillTexts
 pub mod steps

@@ -1,2 +1,3 @@
 -- What the contracts of private steps say.
-pub mod Dealt
+pub mod Lengths
+pub mod Sections

@@ -1,8 +1,12 @@
-//! What a map emits, by parts and in order, and the sections of a part made one again.
+//! What a map emits, by parts and in order, as the bytes of a file; the sections of a part made one again.
 #![tactic(auto)]
 
-mod merged;
-mod shuffle;
+mod encoding;
+mod laws;
+mod passing;
+mod reading;
 
-pub use merged::{Merged, merge};
-pub use shuffle::{SpillBuilder, spill};
+pub use encoding::encode_spill;
+pub use laws::a_section_is_the_part;
+pub use reading::section;
+pub use sorted_parts::{Merged, SpillBuilder, merge, spill};

@@ -10,18 +10,28 @@ use Rattle.record_blocks.proofs.ExactDecoders.{block_exact, whole_again}
 read_again : (schema : Schema) (bytes : List ℕ) (rows : List Record) → IsBlock schema bytes rows → block schema bytes ≡ Some (rows, [])
 read_again schema bytes rows is = whole_again (block_text schema) (FitBlock schema) (block schema) bytes rows (block_exact schema) is.records is.text
 
-abbrev read_as : {A : Type 0} → A → List ℕ → Option (A × List ℕ)
+-- what was read, and the bytes behind it
+abbrev pub read_as : {A : Type 0} → A → List ℕ → Option (A × List ℕ)
 read_as a rest = Some (a, rest)
 
 abbrev what : {A : Type 0} → A → Option (A × List ℕ) → A
 what d None = d
 what d (Some read) = read.0
 
-same_read : {A : Type 0} (a b : A) (rest : List ℕ) → read_as a rest ≡ read_as b rest → b ≡ a
-same_read a b rest e = sym (ap (what a) e)
+abbrev left : {A : Type 0} → List ℕ → Option (A × List ℕ) → List ℕ
+left d None = d
+left d (Some read) = read.1
+
+-- the same was read
+pub same_what : {A : Type 0} (a b : A) (rest others : List ℕ) → read_as a rest ≡ read_as b others → a ≡ b
+same_what a b rest others e = ap (what a) e
+
+-- and the same is behind it
+pub same_left : {A : Type 0} (a b : A) (rest others : List ℕ) → read_as a rest ≡ read_as b others → rest ≡ others
+same_left a b rest others e = ap (left rest) e
 
 pub one_list : BlockIsOfOneList
-one_list schema bytes rows others is other = same_read rows others [] (sym (read_again schema bytes rows is) ∙ read_again schema bytes others other)
+one_list schema bytes rows others is other = same_what others rows [] [] (sym (read_again schema bytes others other) ∙ read_again schema bytes rows is)
 
 pub one_block : ListHasOneBlock
 one_block schema bytes others rows is other = other.text ∙ sym is.text

@@ -10,7 +10,7 @@ use Rattle.hal_base.specs.declared.shape.Shape.{Shape}
 use Rattle.hal_base.specs.Meaning.{Meaning}
 use Rattle.plain_job.specs.Job.{job}
 use Rattle.plain_job.specs.Chain.{source_rows, together}
-use Rattle.partition_shuffle.specs.Spills.{spilled}
+use Rattle.sorted_parts.specs.Spills.{spilled}
 use Rattle.memory_run.specs.declared.inputs.Input.{Input}
 use Rattle.memory_run.specs.declared.inputs.Input.TheVariants.{Kept, Read}
 use Rattle.memory_run.specs.steps.Sections.{first_section, later_sections}

@@ -1,7 +1,7 @@
 use Rattle.std.proofs.Common.{ap, ◌∙◌}
 use Rattle.std.proofs.lemmas.Result.{IfOk-weaker}
 use Rattle.plain_job.specs.Chain.{table_at}
-use Rattle.partition_shuffle.specs.Spills.{spilled}
+use Rattle.sorted_parts.specs.Spills.{spilled}
 use Rattle.memory_run.proofs.Releasing.{serves_without, start_taken}
 use Rattle.memory_run.proofs.first.round_that_takes.Goals as goal
 

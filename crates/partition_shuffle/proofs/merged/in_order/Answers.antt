@@ -1,6 +1,0 @@
-use Rattle.std.proofs.Common.{◌∙◌, arith}
-use Rattle.partition_shuffle.proofs.Merging.{alone_sorted}
-use Rattle.partition_shuffle.proofs.merged.in_order.Goals as goal
-
-pub returns-then-alone : goal.returns-then-alone
-returns-then-alone c = c.in_ok-rows.ensures ∙ alone_sorted c.args.sections (omega (arith, c.len-alone.ensures, c.if-alone.true)) c.requires

@@ -1,5 +1,0 @@
-use Rattle.std.proofs.Common.{◌≡◌, [], replicate}
-use Rattle.partition_shuffle.proofs.shuffle.empty_parts.Given as goal
-
-abbrev pub invariant-parts : goal.invariant-parts
-invariant-parts l = l.out.items ≡ replicate l._part []
