@@ -1,4 +1,4 @@
-ghost use Rattle.std.specs.Prelude.{◌≡◌, ◌+◌, ◌↔◌, ◌≤◌, None, IfOk, IfSome, min, vec_len};
+ghost use Rattle.std.specs.Prelude.{◌≡◌, ◌+◌, ◌↔◌, ◌≤◌, None, IfErr, IfOk, IfSome, min, vec_len};
 ghost use Rattle.std.specs.IoError.{error_kind};
 ghost use Rattle.hal_outside.specs.Told.{Rose};
 ghost use Rattle.hal_outside.specs.Faults.{AtFileDevice};
@@ -54,6 +54,44 @@ impl<R: Eprint> FolderFiles<R> {
         self.faults = self.faults.saturating_add(1);
         tell_failure(&self.runtime, name, error);
         FileFault::Device(device_fault(error))
+    }
+}
+
+impl<R: rt::Files + Eprint> FolderFiles<R> {
+    /// Takes a file away, if it is there.
+    pub fn remove(&mut self, name: &str) -> Result<(), FileFault>
+        ensures faults_stay { self.old.faults ≤ self.new.faults }
+        ensures absents_kept { self.new.absents ≡ self.old.absents }
+        ensures device { IfErr result (λ fault. AtFileDevice fault (Rose self.old.faults self.new.faults)) }
+    {
+        match fs::remove_file(&self.runtime, name) {
+            Ok(()) => Ok(()),
+            Err(error) => self.fault_unless_absent(name, &error),
+        }
+    }
+
+    /// Takes a folder away with all that lies in it, if it is there.
+    pub fn remove_folder(&mut self, alloc: Global, name: &str) -> Result<(), FileFault>
+        ensures faults_stay { self.old.faults ≤ self.new.faults }
+        ensures absents_kept { self.new.absents ≡ self.old.absents }
+        ensures device { IfErr result (λ fault. AtFileDevice fault (Rose self.old.faults self.new.faults)) }
+    {
+        match self.runtime.remove_dir_all(alloc, name) {
+            Ok(()) => Ok(()),
+            Err(error) => self.fault_unless_absent(name, &error),
+        }
+    }
+
+    /// What a failed call that was to take a file or folder away answers. It is done where there was none.
+    fn fault_unless_absent(&mut self, name: &str, error: &io::Error) -> Result<(), FileFault>
+        ensures faults_stay { self.old.faults ≤ self.new.faults }
+        ensures absents_kept { self.new.absents ≡ self.old.absents }
+        ensures device { IfErr result (λ fault. AtFileDevice fault (Rose self.old.faults self.new.faults)) }
+    {
+        if error.kind() == ErrorKind::NotFound {
+            return Ok(());
+        }
+        Err(self.fault(name, error))
     }
 }
 

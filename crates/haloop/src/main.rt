@@ -6,6 +6,7 @@ ghost use Rattle.std.specs.Prelude.{◌≡◌, ◌≢◌, ◌↔◌};
 ghost use Rattle.std.specs.IoError.{error_kind};
 
 mod device;
+mod folder_disks;
 mod folder_files;
 mod std_sink;
 
