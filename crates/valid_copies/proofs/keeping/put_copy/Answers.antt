@@ -1,0 +1,5 @@
+use Rattle.valid_copies.proofs.Steps.{any_put}
+use Rattle.valid_copies.proofs.keeping.put_copy.Goals as goal
+
+pub returns-clause-valid : goal.returns-clause-valid
+returns-clause-valid g c = any_put c.put.result (g.D.Disks.told c.args.disks.now) (g.D.Disks.told c.put.new.disks) c.args.node c.args.name.now c.args.bytes.now c.put.ensures.done
