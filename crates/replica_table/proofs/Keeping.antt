@@ -12,8 +12,8 @@ use Rattle.indexmap.specs.IndexMap.{insert_entry}
 use Rattle.node_names.specs.declared.name.Name.{Name}
 use Rattle.replica_table.specs.declared.copied.Copied.{Copied}
 use Rattle.replica_table.specs.Copies.{Copy, among_its_own, held, is_name, names_of, nodes_with, of_name, with_copy}
-use Rattle.replica_table.specs.Sets.{among}
-use Rattle.replica_table.specs.steps.Entries.{Ascend, Entries, IsListed, behind, copies_in, copy_of, found, items_of, listed, nodes_in, placed}
+use Rattle.replica_table.specs.Sets.{Ascend, among}
+use Rattle.replica_table.specs.steps.Entries.{Entries, IsListed, behind, copies_in, copy_of, found, items_of, listed, nodes_in, placed}
 use Rattle.replica_table.proofs.Members.{ascend_from}
 use Rattle.replica_table.proofs.Names.{itself, same_by}
 
@@ -140,7 +140,7 @@ any_node q (c ∷ cs) = ap (λ b. (q == c.node) || b) (any_node q cs)
 
 -- ---- the names
 
-other_names : (k : Name) (ns : List Name) → AllByRecursion (λ y. is_name k y ≡ false) ns → filter (λ name. not (is_name k name)) ns ≡ ns
+pub other_names : (k : Name) (ns : List Name) → AllByRecursion (λ y. is_name k y ≡ false) ns → filter (λ name. not (is_name k name)) ns ≡ ns
 other_names k [] a = refl
 other_names k (n ∷ ns) a = ap (λ t. cond (not t) (n ∷ filter (λ name. not (is_name k name)) ns) (filter (λ name. not (is_name k name)) ns)) a.0 ∙ ap (λ names. n ∷ names) (other_names k ns a.1)
 

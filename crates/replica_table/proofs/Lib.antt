@@ -1,3 +1,4 @@
 pub mod Keeping
 pub mod Members
 pub mod Names
+pub mod Ordered

@@ -15,8 +15,7 @@ use lib.Count.{ones_step}
 use native.Mathlib.Nat.{pow-suc}
 use Rattle.hal_base.specs.Sorted.{by_order, joined}
 use Rattle.hal_base.proofs.Strict.{Strict, or_swap, same_strict}
-use Rattle.replica_table.specs.Sets.{among, but_one, is_in, members, members_from}
-use Rattle.replica_table.specs.steps.Entries.{Ascend}
+use Rattle.replica_table.specs.Sets.{Ascend, among, but_one, is_in, members, members_from}
 
 -- ---- bits
 
@@ -51,8 +50,8 @@ in_lowest nodes n = elim (nat_lt n nodes) as (λ t. nat_lt n nodes ≡ t → is_
   | false ↦ λ e. ap (λ b. nat_eq b 1) (bit_at_ones_above nodes n (ltb-false n nodes e))
 ] refl
 
-in_first : (nodes n : ℕ) → nodes ≤ 64 → is_in ((2 ^ 64 - 1) / 2 ^ (64 - nodes)) n ≡ nat_lt n nodes
-in_first nodes n few =
+in_below : (nodes n : ℕ) → nodes ≤ 64 → is_in ((2 ^ 64 - 1) / 2 ^ (64 - nodes)) n ≡ nat_lt n nodes
+in_below nodes n few =
     let back : 64 - (64 - nodes) ≡ nodes = omega arith in
     let lowest : (2 ^ 64 - 1) / 2 ^ (64 - nodes) ≡ 2 ^ nodes - 1 = ones_shr 64 (64 - nodes) (omega arith) ∙ ap (λ k. 2 ^ k - 1) back in
     ap (λ set. is_in set n) lowest ∙ in_lowest nodes n
@@ -74,7 +73,7 @@ filter_ascend test first end (n ∷ ns) a = elim (test n) as (λ t. Ascend first
   | false ↦ ascend_from (n + 1) first end (filter test ns) (omega (arith, a.0)) (filter_ascend test (n + 1) end ns a.2)
 ]
 
-joined_ascend : (first end n : ℕ) (ns : List ℕ) → first ≤ n → n < end → Ascend first end ns → Ascend first end (joined nat_cmp n ns)
+pub joined_ascend : (first end n : ℕ) (ns : List ℕ) → first ≤ n → n < end → Ascend first end ns → Ascend first end (joined nat_cmp n ns)
 joined_ascend first end n [] l u a = (l, u, tt)
 joined_ascend first end n (m ∷ ns) l u a = elim (nat_cmp n m) as (λ r. MatchOrdering r (n < m) (n ≡ m) (m < n) → Ascend first end (by_order r (n ∷ m ∷ ns) (m ∷ ns) (m ∷ joined nat_cmp n ns))) [
   | Less ↦ λ o. (l, u, (omega (arith, o), a.1, a.2))
@@ -82,7 +81,7 @@ joined_ascend first end n (m ∷ ns) l u a = elim (nat_cmp n m) as (λ r. MatchO
   | Greater ↦ λ o. (a.0, a.1, joined_ascend (m + 1) end n ns (omega (arith, o)) u a.2)
 ] (ranks n m)
 
-range_ascend : (first len end : ℕ) → first + len ≤ end → Ascend first end (range_with_len first len)
+pub range_ascend : (first len end : ℕ) → first + len ≤ end → Ascend first end (range_with_len first len)
 range_ascend first zero end l = tt
 range_ascend first (suc len) end l = (omega arith, omega arith, range_ascend (first + 1) len end (omega arith))
 
@@ -204,11 +203,11 @@ members_are set ns a h = same_nodes 64 64 (members set) ns (members_ascend set) 
 pub members_none : members 0 ≡ []
 members_none = members_are 0 [] tt (λ q l. ap (λ b. nat_eq b 1) (bit_at-zero q))
 
-pub members_first : (nodes : ℕ) → nodes ≤ 64 → members ((2 ^ 64 - 1) / 2 ^ (64 - nodes)) ≡ range_with_len 0 nodes
-members_first nodes few =
+pub members_below : (nodes : ℕ) → nodes ≤ 64 → members ((2 ^ 64 - 1) / 2 ^ (64 - nodes)) ≡ range_with_len 0 nodes
+members_below nodes few =
     let all : 0 + nodes ≡ nodes = omega arith in
     members_are ((2 ^ 64 - 1) / 2 ^ (64 - nodes)) (range_with_len 0 nodes) (range_ascend 0 nodes 64 (omega (arith, few)))
-    (λ q l. in_first nodes q few ∙ sym (among_range q 0 nodes (omega arith) ∙ ap (nat_lt q) all))
+    (λ q l. in_below nodes q few ∙ sym (among_range q 0 nodes (omega arith) ∙ ap (nat_lt q) all))
 
 pub members_with : (old new node : ℕ) → node < 64 → ((q : ℕ) → is_in new q ≡ ((q == node) || is_in old q)) → members new ≡ joined nat_cmp node (members old)
 members_with old new node l h = members_are new (joined nat_cmp node (members old)) (joined_ascend 0 64 node (members old) (omega arith) l (members_ascend old))

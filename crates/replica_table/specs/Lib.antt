@@ -1,3 +1,4 @@
 pub mod Copies
+pub mod Order
 pub mod Sets
 pub mod steps

@@ -1,5 +1,5 @@
 -- Sets of nodes.
-use Rattle.std.specs.Prelude.{ℕ, ◌==◌, ◌-◌, not, Bool, List}
+use Rattle.std.specs.Prelude.{ℕ, ◌==◌, ◌+◌, ◌-◌, ◌<◌, ◌≤◌, not, Bool, List, [], ◌∷◌}
 use Rattle.std.specs.Int.{bit_at}
 use Rattle.std.specs.List.{filter, list_any, range_with_len}
 
@@ -22,3 +22,8 @@ among node nodes = list_any (λ other. node == other) nodes
 -- the nodes but for one
 abbrev pub but_one : ℕ → List ℕ → List ℕ
 but_one node nodes = filter (λ other. not (node == other)) nodes
+
+-- strictly ascending numbers, from a first one on and below an end
+abbrev pub Ascend : ℕ → ℕ → List ℕ → Type 0
+Ascend first end [] = Unit {0}
+Ascend first end (n ∷ ns) = (first ≤ n) × (n < end) × Ascend (n + 1) end ns

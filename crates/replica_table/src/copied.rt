@@ -1,8 +1,8 @@
 ghost use Rattle.std.specs.Prelude.{◌≡◌, ℕ, ◌<◌, ◌==◌, ◌&&◌, ◌∷◌, not, nat_lt, length, All, IfOk, IfSome, IfNone};
 ghost use Rattle.std.specs.List.{filter};
 ghost use Rattle.replica_table.specs.Copies.{is_name};
-ghost use Rattle.replica_table.specs.Sets.{among, members};
-ghost use Rattle.replica_table.specs.steps.Entries.{Ascend, behind, found, nodes_in, placed};
+ghost use Rattle.replica_table.specs.Sets.{Ascend, among, members};
+ghost use Rattle.replica_table.specs.steps.Entries.{behind, found, nodes_in, placed};
 
 use crate::node_set::{NodeSet, with_bit};
 use hal_base::Memory;

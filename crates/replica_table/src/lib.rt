@@ -2,11 +2,13 @@
 #![tactic(auto)]
 
 mod copied;
+mod laws;
 mod name_test;
 mod node_set;
 mod placing;
 mod table;
 
+pub use laws::names_keep_their_order;
 pub use name_test::NameTest;
 pub use node_set::NodeSet;
 pub use placing::place;

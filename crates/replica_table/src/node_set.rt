@@ -1,4 +1,4 @@
-ghost use Rattle.std.specs.Prelude.{◌≡◌, ℕ, ◌<◌, ◌≤◌, ◌==◌, ◌&&◌, ◌||◌, not, nat_lt, [], length, slice_get};
+ghost use Rattle.std.specs.Prelude.{◌≡◌, ℕ, ◌<◌, ◌≤◌, ◌==◌, ◌&&◌, ◌||◌, not, nat_lt, [], length, slice_get, true, IfSome};
 ghost use Rattle.std.specs.List.{filter, range_with_len};
 ghost use Rattle.std.specs.Ordering.{nat_cmp};
 ghost use Rattle.hal_base.specs.Sorted.{joined};
@@ -15,8 +15,8 @@ impl NodeSet {
         NodeSet(0)
     }
 
-    /// The nodes from 0 on, so many of them.
-    pub fn first(nodes: u32) -> NodeSet
+    /// The nodes below a number.
+    pub fn below(nodes: u32) -> NodeSet
         requires some { 1 ≤ nodes }
         requires few { nodes ≤ 64 }
         ensures { members result.0 ≡ range_with_len 0 nodes }
@@ -39,7 +39,8 @@ impl NodeSet {
 
     /// The node at place `k` of the set, ascending, from 0. `None` exactly where `k` is not below the count.
     pub fn nth(&self, k: u32) -> Option<u32>
-        ensures { result ≡ slice_get (members self.now.0) k }
+        ensures place { result ≡ slice_get (members self.now.0) k }
+        ensures member { IfSome result (λ node. among node (members self.now.0) ≡ true) }
     {
         let bits = self.0;
         let mut left = k;

@@ -4,7 +4,8 @@ ghost use Rattle.std.specs.Option.{option_copied};
 ghost use Rattle.std.specs.Ordering.{nat_cmp};
 ghost use Rattle.hal_base.specs.Sorted.{joined};
 ghost use Rattle.replica_table.specs.Copies.{Replicas, but_file, but_node, but_those, copy_at, held, holders, is_name, names_of, with_copy};
-ghost use Rattle.replica_table.specs.Sets.{among, but_one, members};
+ghost use Rattle.replica_table.specs.Order.{AreInOrder};
+ghost use Rattle.replica_table.specs.Sets.{Ascend, among, but_one, members};
 ghost use Rattle.replica_table.specs.steps.Entries.{listed};
 
 use crate::copied::{
@@ -37,7 +38,7 @@ impl Model for Table {
 
     ghost view = { λ t. record { nodes = t.nodes; up = members t.up.0; copies = copies_in t.copies.entries } };
 
-    ghost invariant = { λ t. IsKept t.nodes t.copies.entries };
+    ghost invariant = { λ t. IsKept t.nodes t.up.0 t.copies.entries };
 }
 
 impl Table {
@@ -52,7 +53,7 @@ impl Table {
         Ok(Table {
             alloc,
             nodes,
-            up: NodeSet::first(nodes),
+            up: NodeSet::below(nodes),
             copies: IndexMap::new(alloc),
         })
     }
@@ -143,14 +144,16 @@ impl Table {
     }
 
     pub fn up(&self) -> NodeSet
-        ensures { members result.0 ≡ self.now.up }
+        ensures nodes { members result.0 ≡ self.now.up }
+        ensures order { Ascend 0 self.now.nodes self.now.up }
     {
         self.up
     }
 
     /// How many names there are of which some node, up or down, holds a copy.
     pub fn len(&self) -> usize
-        ensures { result ≡ length (names_of self.now.copies) }
+        ensures names { result ≡ length (names_of self.now.copies) }
+        ensures order { AreInOrder self.now.nodes self.now.copies }
     {
         self.copies.len()
     }

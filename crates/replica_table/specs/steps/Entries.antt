@@ -1,5 +1,5 @@
 -- The copies as the table keeps them: a list for each name.
-use Rattle.std.specs.Prelude.{ℕ, ◌+◌, ◌<◌, ◌≤◌, ◌==◌, nat_lt, if◌then◌else◌, List, [], ◌∷◌, length, map, Option, None, Some}
+use Rattle.std.specs.Prelude.{ℕ, ◌<◌, ◌≤◌, ◌==◌, nat_lt, if◌then◌else◌, List, [], ◌∷◌, length, map, Option, None, Some}
 use Rattle.std.specs.List.{flat_map, AllByRecursion, IsDistinct}
 use Rattle.std.specs.Map.{keys_of, lookup}
 use Rattle.std.specs.declared.alloc.Global.{Global}
@@ -7,6 +7,7 @@ use Rattle.std.specs.declared.vec.Vec.{Vec}
 use Rattle.node_names.specs.declared.digest.Digest.{Digest}
 use Rattle.node_names.specs.declared.name.Name.{Name}
 use Rattle.replica_table.specs.Copies.{Copy, copy_at, is_name}
+use Rattle.replica_table.specs.Sets.{Ascend, members}
 use Rattle.replica_table.specs.declared.copied.Copied.{Copied}
 
 -- ---- the copies of one name
@@ -32,11 +33,6 @@ abbrev pub placed : Copied → List Copied → List Copied
 placed new [] = new ∷ []
 placed new (copied ∷ copies) = if nat_lt copied.node new.node then copied ∷ placed new copies else new ∷ behind new.node (copied ∷ copies)
 
--- strictly ascending numbers, from a first one on and below an end
-abbrev pub Ascend : ℕ → ℕ → List ℕ → Type 0
-Ascend first end [] = Unit {0}
-Ascend first end (n ∷ ns) = (first ≤ n) × (n < end) × Ascend (n + 1) end ns
-
 -- ---- the copies of all names
 
 abbrev pub Entries : Type 0
@@ -58,8 +54,9 @@ pub record IsListed (nodes : ℕ) (entry : Name × Vec Copied Global) : Type 0 w
   pub held : 0 < length entry.1.items
   pub ascending : Ascend 0 nodes (nodes_in entry.1.items)
 
--- what holds of the entries of a table of so many nodes
-pub record IsKept (nodes : ℕ) (entries : Entries) : Type 0 where
+-- what holds of a table of so many nodes, of the set of those that are up and of its entries
+pub record IsKept (nodes set : ℕ) (entries : Entries) : Type 0 where
   pub few : nodes ≤ 64
+  pub up : Ascend 0 nodes (members set)
   pub each : AllByRecursion (IsListed nodes) entries
   pub once : IsDistinct is_name (keys_of entries)

@@ -15,6 +15,7 @@ invariant_of-self-2 c =
     let list : c.in_ok-copies.copies.items ≡ placed new (listed c.args.name.now entries) = c.in_ok-copies.ensures ∙ ap (placed new) c.copies_of.ensures in
     record {
       few = c.self.invariant.few;
+      up = c.self.invariant.up;
       each = subst (λ es. AllByRecursion (IsListed nodes) es) (sym c.in_ok-insert.ensures.entries) (with_list nodes c.args.name.now new c.in_ok-copies.copies entries within list c.self.invariant.each);
       once = c.in_ok-insert.ensures.unique;
     }

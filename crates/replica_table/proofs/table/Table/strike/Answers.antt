@@ -6,6 +6,7 @@ use Rattle.replica_table.proofs.table.Table.strike.Goals as goal
 pub invariant_of-self : goal.invariant_of-self
 invariant_of-self c = record {
   few = c.self.invariant.few;
+  up = c.self.invariant.up;
   each = (retained _ c.self.inside.nodes (λ copy. not (is_at c.args.name.now c.args.node copy)) (λ name copied. not (is_name c.args.name.now name && nat_eq c.args.node copied.node)) (λ name copied. refl) _ (λ name v b w g call. search rules) _ _ c.self.invariant.each c.retain.ensures.filtered).1;
   once = c.retain.ensures.unique;
 }

@@ -1,9 +1,9 @@
 use Rattle.std.proofs.Common.{sym, ap, subst, ◌∙◌, ◌<◌, All}
 use Rattle.std.specs.List.{filter}
 use Rattle.replica_table.specs.Copies.{Replicas, holders}
-use Rattle.replica_table.specs.Sets.{among, members}
+use Rattle.replica_table.specs.Sets.{Ascend, among, members}
 use Rattle.replica_table.specs.declared.copied.Copied.{Copied}
-use Rattle.replica_table.specs.steps.Entries.{Ascend, nodes_in}
+use Rattle.replica_table.specs.steps.Entries.{nodes_in}
 use Rattle.replica_table.proofs.Keeping.{all_below, listed_ascend, nodes_with_in}
 use Rattle.replica_table.proofs.Members.{ascend_to}
 use Rattle.replica_table.proofs.table.Table.where_is.Goals as goal
