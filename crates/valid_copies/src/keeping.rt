@@ -14,7 +14,6 @@ use std::alloc::Global;
 
 /// Sets a file of a node to the text of its name. Copies that are valid stay so, with this one in the place of an older
 /// one. docs/CLUSTER.md, "Valid copies".
-#[tactic(auto, using(crate::proofs::Steps::any_put))]
 pub fn put_copy<D: Disks>(
     alloc: Global,
     disks: &mut D,
