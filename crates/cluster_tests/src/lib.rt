@@ -1,9 +1,14 @@
-//! The texts of files on nodes against vectors, and what is refused; a crate for tests alone.
+//! Files on nodes: their texts against vectors, disks on which things go wrong, and who holds which copy; a crate for tests
+//! alone.
 #![tactic(auto)]
 
 #[cfg(test)]
 mod block_tests;
+#[cfg(test)]
+mod disk_tests;
 pub mod samples;
 #[cfg(test)]
 mod spill_tests;
+#[cfg(test)]
+mod table_tests;
 pub mod vectors;
