@@ -8,13 +8,7 @@ use Rattle.node_names.specs.declared.name.Name.{Name}
 use Rattle.node_names.specs.declared.name.Name.TheVariants.{Blk, Spill, Out, Ric, Mic, Roc}
 use Rattle.replica_table.specs.Copies.{Copy, among_its_own, held, is_at, is_name, with_copy}
 
-pub all_filter : {A : Type 0} (P : A → Type 0) (p : A → Bool) (xs : List A) → AllByRecursion P xs → AllByRecursion P (filter p xs)
-all_filter P p [] a = tt
-all_filter P p (x ∷ xs) a = elim (p x) as (λ t. AllByRecursion P (cond t (x ∷ filter p xs) (filter p xs))) [
-  | true ↦ (a.0, all_filter P p xs a.1)
-  | false ↦ all_filter P p xs a.1
-]
-
+-- what holds of those that are kept
 pub all_kept : {A : Type 0} (P Q : A → Type 0) (p : A → Bool) (xs : List A) → ((x : A) → p x ≡ true → P x → Q x) → AllByRecursion P xs → AllByRecursion Q (filter p xs)
 all_kept P Q p [] f a = tt
 all_kept P Q p (x ∷ xs) f a = elim (p x) as (λ t. p x ≡ t → AllByRecursion Q (cond t (x ∷ filter p xs) (filter p xs))) [

@@ -1,5 +1,5 @@
 -- The steps that keep copies valid.
-use Rattle.std.proofs.Common.{◌≡◌, ℕ, Bool, true, false, not, cond, nat_eq, inl, inr, List, [], ◌∷◌, Option, None, Some, IfSome, IsSome, Result, Ok, Err, IfOk, OnOk, OnErr, option_map, unwrap_or, refl, sym, ap, ◌∙◌, subst}
+use Rattle.std.proofs.Common.{◌≡◌, ℕ, Bool, true, false, not, cond, nat_eq, inl, inr, List, Option, None, Some, IfSome, IsSome, Result, Ok, Err, IfOk, OnOk, OnErr, option_map, unwrap_or, refl, sym, ap, ◌∙◌, subst}
 use Rattle.std.specs.List.{AllByRecursion}
 use Rattle.std.specs.Ordering.{nat_cmp, eq_by_cmp, is_eq}
 use Rattle.std.specs.declared.cmp.Ordering.{Ordering}
@@ -12,6 +12,7 @@ use Rattle.std.proofs.lemmas.Map.Lookups.{exact_bytes}
 use Rattle.node_names.specs.declared.name.Name.{Name}
 use Rattle.node_names.specs.declared.name.Name.TheVariants.{Blk, Spill, Out, Ric, Mic, Roc}
 use Rattle.node_names.specs.declared.digest.Digest.{Digest}
+use Rattle.plain_job.proofs.Lists.{all_weaker}
 use Rattle.hal_outside.specs.Damage.{ShowsAt, ShowsDamage}
 use Rattle.hal_outside.specs.DiskCalls.{Wipe, Write}
 use Rattle.hal_outside.specs.DiskFiles.{DiskMap, file_at, file_key, is_on, with_file, without_node}
@@ -26,7 +27,7 @@ use Rattle.replica_table.specs.Copies.{Copy, but_file, but_node, held, is_at, wi
 use Rattle.valid_copies.specs.Stands.{IsText, IsValid, Stands, WasPut, copy_of_bytes}
 use Rattle.valid_copies.specs.Texts.{text_of}
 use Rattle.valid_copies.specs.Values.{World}
-use Rattle.valid_copies.proofs.Copies.{all_filter, all_kept, all_with_copy, held_has}
+use Rattle.valid_copies.proofs.Copies.{all_kept, all_with_copy, held_has}
 use Rattle.sha2.specs.Sha256.{sha256}
 
 -- ---- where it is told
@@ -39,10 +40,6 @@ carried R P Q (Some t) (Some u) o f p = f t u o p
 in_told : (P Q : DiskTold → Type 0) (told : Option DiskTold) → ((t : DiskTold) → P t → Q t) → IfSome told P → IfSome told Q
 in_told P Q None f p = tt
 in_told P Q (Some t) f p = f t p
-
-all_map : {A : Type 0} (P Q : A → Type 0) (xs : List A) → ((x : A) → P x → Q x) → AllByRecursion P xs → AllByRecursion Q xs
-all_map P Q [] f a = tt
-all_map P Q (x ∷ xs) f a = (f x a.0, all_map P Q xs f a.1)
 
 -- ---- files
 
@@ -93,7 +90,7 @@ put_stands w copies old new node name bytes o is s = record {
   put = carried (Done (Write node name bytes)) (λ t. AllByRecursion (WasPut w t) copies) (λ u. AllByRecursion (WasPut w u) (with_copy (copy_of_bytes name node bytes) copies)) old new o
       (λ t u r p. all_with_copy (WasPut w u) (copy_of_bytes name node bytes) copies
       (ap (λ files. file_at files node name) r.put ∙ written_new w t.put node name bytes is)
-      (all_map (WasPut w t) (WasPut w u) copies (λ c q. ap (λ files. file_at files c.node c.name) r.put ∙ written_put w t.put node name bytes c is q) p)) s.put;
+      (all_weaker (WasPut w t) (WasPut w u) copies (λ c q. ap (λ files. file_at files c.node c.name) r.put ∙ written_put w t.put node name bytes c is q) p)) s.put;
 }
 
 pub any_put : (result : Result FileRef Fault) (old new : Option DiskTold) (node : ℕ) (name : Name) (bytes : List ℕ) → OnOk result (OnTold (Done (Write node name bytes)) old new) → OnOk result ((w : World) (copies : List Copy) → text_of w name ≡ Some bytes → Stands w copies old → Stands w (with_copy (copy_of_bytes name node bytes) copies) new)
@@ -102,13 +99,13 @@ any_put (Err fault) old new node name bytes o = tt
 
 pub strike_stands : (w : World) (copies : List Copy) (told : Option DiskTold) (name : Name) (node : ℕ) → Stands w copies told → Stands w (but_file name node copies) told
 strike_stands w copies told name node s = record {
-  valid = all_filter (IsValid w) (λ c. not (is_at name node c)) copies s.valid;
-  put = in_told (λ t. AllByRecursion (WasPut w t) copies) (λ t. AllByRecursion (WasPut w t) (but_file name node copies)) told (λ t p. all_filter (WasPut w t) (λ c. not (is_at name node c)) copies p) s.put;
+  valid = all_kept (IsValid w) (IsValid w) (λ c. not (is_at name node c)) copies (λ c e q. q) s.valid;
+  put = in_told (λ t. AllByRecursion (WasPut w t) copies) (λ t. AllByRecursion (WasPut w t) (but_file name node copies)) told (λ t p. all_kept (WasPut w t) (WasPut w t) (λ c. not (is_at name node c)) copies (λ c e q. q) p) s.put;
 }
 
 pub wipe_stands : (w : World) (copies : List Copy) (old new : Option DiskTold) (node : ℕ) → OnTold (Done (Wipe node)) old new → Stands w copies old → Stands w (but_node node copies) new
 wipe_stands w copies old new node o s = record {
-  valid = all_filter (IsValid w) (λ c. not (nat_eq node c.node)) copies s.valid;
+  valid = all_kept (IsValid w) (IsValid w) (λ c. not (nat_eq node c.node)) copies (λ c e q. q) s.valid;
   put = carried (Done (Wipe node)) (λ t. AllByRecursion (WasPut w t) copies) (λ u. AllByRecursion (WasPut w u) (but_node node copies)) old new o
       (λ t u r p. all_kept (WasPut w t) (WasPut w u) (λ c. not (nat_eq node c.node)) copies
       (λ c e q. ap (λ files. file_at files c.node c.name) r.put ∙ after_wipe t.put node c.node c.name ∙ ap (λ b. cond b (file_at t.put c.node c.name) None) e ∙ q) p) s.put;
@@ -118,7 +115,7 @@ wipe_stands w copies old new node o s = record {
 read_stands : (w : World) (copies : List Copy) (R : DiskTold → DiskTold → Type 0) (old new : Option DiskTold) → ((t u : DiskTold) → R t u → u.put ≡ t.put) → OnTold R old new → Stands w copies old → Stands w copies new
 read_stands w copies R old new same o s = record {
   valid = s.valid;
-  put = carried R (λ t. AllByRecursion (WasPut w t) copies) (λ u. AllByRecursion (WasPut w u) copies) old new o (λ t u r p. all_map (WasPut w t) (WasPut w u) copies (λ c q. ap (λ files. file_at files c.node c.name) (same t u r) ∙ q) p) s.put;
+  put = carried R (λ t. AllByRecursion (WasPut w t) copies) (λ u. AllByRecursion (WasPut w u) copies) old new o (λ t u r p. all_weaker (WasPut w t) (WasPut w u) copies (λ c q. ap (λ files. file_at files c.node c.name) (same t u r) ∙ q) p) s.put;
 }
 
 fetched_put : (file : FileRef) (found : Fetched) (t u : DiskTold) → IsFetched file found t u → u.put ≡ t.put
