@@ -1,3 +1,4 @@
+pub mod Names
 pub mod ProgramLaws
 pub mod Programs
 pub mod Rows
