@@ -1,7 +1,7 @@
 #!/bin/sh
 # run.sh [PROGRAM]: times the encoding and decoding of blocks of 1,000,000 records, written by hand in Rust and proved,
-# side by side, and a digest of the same bytes, and checks that both programs print the same lines. PROGRAM is the path
-# of the built block_bench.
+# side by side, and checks that both programs print the same lines; and a digest of the same bytes, a put and a fetch.
+# PROGRAM is the path of the built block_bench.
 
 set -eu
 
@@ -23,10 +23,10 @@ ten_passes() {
 # The rounds alternate, so that a slow spell of the machine hits both programs.
 for _ in 1 2 3 4 5; do
     for kinds in pairs words; do
-        for what in encode decode digest; do
+        for what in encode decode digest put fetch; do
             for program in $programs; do
                 case $program:$what in
-                    plain:digest) continue ;;
+                    plain:digest | plain:put | plain:fetch) continue ;;
                     block_bench:*) set -- "$built" ;;
                     *) set -- "./$program" ;;
                 esac

@@ -1,11 +1,14 @@
-//! Encodes, decodes or digests a block of records again and again, and prints how many bytes the block has and what
-//! came out.
+//! Encodes, decodes or digests a block of records again and again, or puts it on disks in memory or fetches it from them,
+//! and prints how many bytes the block has and what came out.
 #![tactic(auto)]
 
 ghost use Rattle.std.specs.List.{AllByRecursion};
 ghost use Rattle.hal_base.specs.Values.{FitsSchema};
 
 use hal_base::{Kind, Kinds, Memory, Records, Schema};
+use hal_outside::MemDisks;
+use node_files::{Fetched, FileRef, fetch, put};
+use node_names::Name;
 use record_blocks::{decode, encode};
 use sha2::{Digest, Sha256};
 use std::alloc::Global;
@@ -18,7 +21,12 @@ enum Work {
     Encode,
     Decode,
     Digest,
+    Put,
+    Fetch,
 }
+
+/// The name of the file that is put and fetched.
+const NAME: Name = Name::Blk { table: 0, block: 0 };
 
 /// What the words ask for: whether keys are texts, what is done, how many records there are, and how often.
 #[derive(Clone, Copy)]
@@ -69,6 +77,8 @@ fn work_of(word: &str) -> Option<Work> {
         "encode" => Some(Work::Encode),
         "decode" => Some(Work::Decode),
         "digest" => Some(Work::Digest),
+        "put" => Some(Work::Put),
+        "fetch" => Some(Work::Fetch),
         _ => None,
     }
 }
@@ -81,6 +91,8 @@ fn run(alloc: Global, asked: &Asked) -> Result<(usize, usize), Memory> {
         Work::Encode => encoded(alloc, bytes.as_slice(), &schema, asked.passes)?,
         Work::Decode => decoded(alloc, bytes.as_slice(), &schema, asked.passes)?,
         Work::Digest => digested(bytes.as_slice(), asked.passes),
+        Work::Put => put_again(alloc, bytes.as_slice(), asked.passes)?,
+        Work::Fetch => fetched(alloc, bytes.as_slice(), asked.passes)?,
     };
     Ok((bytes.len(), sum))
 }
@@ -155,4 +167,39 @@ fn digested(bytes: &[u8], passes: u32) -> usize {
         sum = sum.wrapping_add(digest[0] as usize);
     }
     sum
+}
+
+/// The first bytes of the digests of a file that is put again and again.
+fn put_again(alloc: Global, bytes: &[u8], passes: u32) -> Result<usize, Memory> {
+    let mut disks = MemDisks::new(alloc);
+    let mut sum = 0usize;
+    for _pass in 0..passes {
+        let file = put_on(alloc, &mut disks, bytes)?;
+        sum = sum.wrapping_add(file.digest.0[0] as usize);
+    }
+    Ok(sum)
+}
+
+/// How many bytes come of a file that is put once and fetched again and again.
+fn fetched(alloc: Global, bytes: &[u8], passes: u32) -> Result<usize, Memory> {
+    let mut disks = MemDisks::new(alloc);
+    let file = put_on(alloc, &mut disks, bytes)?;
+    let mut sum = 0usize;
+    for _pass in 0..passes {
+        sum = sum.wrapping_add(count_fetched(alloc, &mut disks, &file)?);
+    }
+    Ok(sum)
+}
+
+// Disks in memory fail for want of memory alone.
+fn put_on(alloc: Global, disks: &mut MemDisks, bytes: &[u8]) -> Result<FileRef, Memory> {
+    put(alloc, disks, 0, &NAME, bytes).map_err(|_| Memory)
+}
+
+fn count_fetched(alloc: Global, disks: &mut MemDisks, file: &FileRef) -> Result<usize, Memory> {
+    match fetch(alloc, disks, file) {
+        Ok(Fetched::Bytes(bytes)) => Ok(bytes.len()),
+        Ok(Fetched::Missed) => Ok(0),
+        Err(_) => Err(Memory),
+    }
 }
