@@ -1,4 +1,4 @@
-ghost use Rattle.std.specs.Prelude.{◌≡◌, ℕ, ◌<◌, ◌≤◌, ◌↔◌, IsTrue, List, length, Some, None, MatchOption};
+ghost use Rattle.std.specs.Prelude.{◌≡◌, ℕ, ◌<◌, ◌≤◌, ◌↔◌, IsTrue, List, length, Some, None, IfErr, MatchOption};
 ghost use Rattle.std.specs.List.{list_all};
 ghost use Rattle.record_blocks.specs.Blocks.{block_head};
 ghost use Rattle.record_blocks.specs.steps.Decoders as decoders;
@@ -41,7 +41,8 @@ impl<'a> Cursor<'a> {
     /// A number of eight bytes.
     #[tactic(auto, unfolding(crate::specs::steps::Decoders::number))]
     pub fn number(&mut self) -> Result<u64, TextFault>
-        ensures { Decodes (decoders.number self.old) result self.new }
+        ensures decoded { Decodes (decoders.number self.old) result self.new }
+        ensures malformed { IfErr result (λ it. it ≡ TextFault.Malformed) }
     {
         match self.rest.split_first_chunk::<8>() {
             Some((front, rest)) => {
@@ -56,7 +57,8 @@ impl<'a> Cursor<'a> {
     /// A number of two bytes.
     #[tactic(auto, unfolding(crate::specs::steps::Decoders::short))]
     pub fn short(&mut self) -> Result<u16, TextFault>
-        ensures { Decodes (decoders.short self.old) result self.new }
+        ensures decoded { Decodes (decoders.short self.old) result self.new }
+        ensures malformed { IfErr result (λ it. it ≡ TextFault.Malformed) }
     {
         match self.rest.split_first_chunk::<2>() {
             Some((front, rest)) => {
@@ -84,7 +86,8 @@ impl<'a> Cursor<'a> {
     /// These bytes, which must come next.
     #[tactic(auto, using(crate::proofs::Fronts::after_is))]
     pub fn expect(&mut self, front: &[u8]) -> Result<(), TextFault>
-        ensures { Decodes (decoders.after front.now self.old) result self.new }
+        ensures decoded { Decodes (decoders.after front.now self.old) result self.new }
+        ensures malformed { IfErr result (λ it. it ≡ TextFault.Malformed) }
     {
         match self.rest.strip_prefix(front) {
             Some(rest) => {
