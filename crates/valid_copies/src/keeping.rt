@@ -44,7 +44,6 @@ pub fn put_copy<D: Disks>(
 /// Reads a copy. Where the disks tell what they hold, show their damage, and the copies are valid, the bytes are the text
 /// of its name, or it is missed. docs/CLUSTER.md, "Valid copies".
 pub fn fetch_copy<D: Disks>(alloc: Global, disks: &mut D, file: &FileRef) -> Result<Fetched, Fault>
-    requires shows { D.shows_damage disks.old }
     ensures kept { IfOk result (HasDigest file.now.digest.0) }
     ensures faults_stay { D.faults disks.old ≤ D.faults disks.new }
     ensures misses_stay { D.misses disks.old ≤ D.misses disks.new }
@@ -54,9 +53,9 @@ pub fn fetch_copy<D: Disks>(alloc: Global, disks: &mut D, file: &FileRef) -> Res
     ensures found { IfOk result (λ fetched. IfSome (D.told disks.new) (λ new. IsFound (file_at new.now file.now.node file.now.name) file.now.digest.0 fetched)) }
     ensures done { IfOk result (λ fetched. OnTold (IsFetched file.now fetched) (D.told disks.old) (D.told disks.new)) }
     ensures failed { OnErr result (OnTold (NotRead file.now.node file.now.name file.now.digest.0 (Rose (D.misses disks.old) (D.misses disks.new))) (D.told disks.old) (D.told disks.new)) }
-    ensures text { IfOk result (λ found. (w : World) (copies : List Copy) → Stands w copies (D.told disks.old) → IsSome (D.told disks.old) → held file.now.name file.now.node copies ≡ Some file.now.digest → IsText (text_of w file.now.name) found) }
+    ensures text { D.shows_damage disks.old → IfOk result (λ found. (w : World) (copies : List Copy) → Stands w copies (D.told disks.old) → IsSome (D.told disks.old) → held file.now.name file.now.node copies ≡ Some file.now.digest → IsText (text_of w file.now.name) found) }
     ensures valid { (w : World) (copies : List Copy) → Stands w copies (D.told disks.old) → Stands w copies (D.told disks.new) }
-    ensures damage_shown { D.shows_damage disks.new }
+    ensures damage_shown { D.shows_damage disks.old → D.shows_damage disks.new }
     ensures soundness_kept { D.sound disks.old → D.sound disks.new }
 {
     fetch(alloc, disks, file)

@@ -2,8 +2,8 @@ use Rattle.valid_copies.proofs.Steps.{any_read, any_text}
 use Rattle.valid_copies.proofs.keeping.fetch_copy.Goals as goal
 
 pub returns-clause-text : goal.returns-clause-text
-returns-clause-text g c =
-    any_text c.args.file.now c.fetch.result (g.D.Disks.told c.args.disks.now) (g.D.Disks.told c.fetch.new.disks) (g.met.D.Disks.damage_shows c.fetch.new.disks (c.fetch.ensures.damage_shown c.requires.shows)) c.fetch.ensures.done c.fetch.ensures.found c.fetch.ensures.kept
+returns-clause-text g c = λ shows.
+    any_text c.args.file.now c.fetch.result (g.D.Disks.told c.args.disks.now) (g.D.Disks.told c.fetch.new.disks) (g.met.D.Disks.damage_shows c.fetch.new.disks (c.fetch.ensures.damage_shown shows)) c.fetch.ensures.done c.fetch.ensures.found c.fetch.ensures.kept
 
 pub returns-clause-valid : goal.returns-clause-valid
 returns-clause-valid g c = λ w copies s.
