@@ -1,5 +1,7 @@
 -- A script of what goes wrong on disks.
-use Rattle.std.specs.Prelude.{ℕ, Bool, false, nat_eq}
+use Rattle.std.specs.Prelude.{◌≡◌, ℕ, Bool, IsTrue, false, nat_eq}
+use Rattle.node_names.specs.declared.name.Name.{Name}
+use Rattle.node_names.specs.Names.{kind_of}
 use Rattle.hal_outside.specs.declared.script.Act.{Act}
 use Rattle.hal_outside.specs.declared.script.Act.TheVariants as act
 
@@ -18,3 +20,11 @@ fails_write number (act.FailWrite at) = nat_eq at number
 fails_write number (act.SpoilFirst node name) = false
 fails_write number (act.SpoilKind kind) = false
 fails_write number act.SpoilAll = false
+
+-- an act asks to spoil a file that was just written, for the first time or again
+abbrev pub AsksToSpoil : ℕ → Name → Bool → Act → Type 0
+AsksToSpoil node name first (act.FailAt at) = ⊥
+AsksToSpoil node name first (act.FailWrite at) = ⊥
+AsksToSpoil node name first (act.SpoilFirst other other_name) = IsTrue first × (node ≡ other) × (name ≡ other_name)
+AsksToSpoil node name first (act.SpoilKind kind) = kind_of name ≡ kind
+AsksToSpoil node name first act.SpoilAll = Unit {0}

@@ -5,7 +5,7 @@ ghost use Rattle.hal_outside.specs.DiskCalls as call;
 ghost use Rattle.hal_outside.specs.DiskCalls.{answer_of};
 ghost use Rattle.hal_outside.specs.DiskTold.{IsAnswer, IsWanted};
 ghost use Rattle.hal_outside.specs.DiskSteps.{Step, called, now_after};
-ghost use Rattle.hal_outside.specs.steps.DiskLogs.{Tells, answer_kept, call_of, settled, step_of, steps_of};
+ghost use Rattle.hal_outside.specs.steps.DiskLogs.{IsWriteOf, Tells, WasWritten, answer_kept, call_of, settled, step_of, steps_of};
 
 use crate::answers::answer_with;
 use crate::got::Got;
@@ -121,8 +121,10 @@ impl Log {
     }
 
     /// Whether a call has written this file.
-    pub fn was_written(&self, node: u32, name: &Name) -> bool {
-        self.entries.iter().any(|entry| is_write(entry, node, name))
+    pub fn was_written(&self, node: u32, name: &Name) -> bool
+        ensures { IsTrue result ↔ WasWritten node name.now self.now }
+    {
+        was_written(&self.entries, node, name)
     }
 
     /// After `Memory` nothing has changed.
@@ -280,8 +282,21 @@ fn settle(entries: &mut VecDeque<Entry>)
     }
 }
 
+fn was_written(entries: &VecDeque<Entry>, node: u32, name: &Name) -> bool
+    ensures { IsTrue result ↔ WasWritten node name.now (steps_of entries.now.items) }
+{
+    'entries: for at in 0..entries.len() {
+        if is_write(&entries[at], node, name) {
+            return true;
+        }
+    }
+    false
+}
+
 /// Whether the entry is a call that writes this file.
-fn is_write(entry: &Entry, node: u32, name: &Name) -> bool {
+fn is_write(entry: &Entry, node: u32, name: &Name) -> bool
+    ensures { (steps : List Step) → IsTrue result ↔ IsWriteOf node name.now (step_of steps entry.now.cause entry.now.deed) }
+{
     match (&entry.cause, &entry.deed) {
         (
             Cause::Call,

@@ -1,4 +1,4 @@
-ghost use Rattle.std.specs.Prelude.{◌≡◌, ◌≤◌, ◌+◌, ◌||◌, is_err, min, IfErr};
+ghost use Rattle.std.specs.Prelude.{◌≡◌, ◌≤◌, ◌+◌, ◌||◌, ◌↔◌, is_err, min, Any, IfErr, IsTrue};
 ghost use Rattle.std.specs.List.{list_any};
 ghost use Rattle.hal_outside.specs.Told.{Rose};
 ghost use Rattle.hal_outside.specs.Faults.{AtDiskDevice};
@@ -88,7 +88,9 @@ impl Script {
     }
 
     /// Whether the file is to be spoilt that was just written, for the first time or again.
-    pub(crate) fn spoils(&self, node: u32, name: &Name, first: bool) -> bool {
+    pub(crate) fn spoils(&self, node: u32, name: &Name, first: bool) -> bool
+        ensures { IsTrue result ↔ Any (script.AsksToSpoil node name.now first) self.now.acts }
+    {
         self.acts
             .as_slice()
             .iter()
@@ -130,7 +132,9 @@ fn act_fails_write(act: &Act, number: u64) -> bool
     }
 }
 
-fn spoils(act: &Act, node: u32, name: &Name, first: bool) -> bool {
+fn spoils(act: &Act, node: u32, name: &Name, first: bool) -> bool
+    ensures { IsTrue result ↔ script.AsksToSpoil node name.now first act.now }
+{
     match act {
         Act::FailAt(_) | Act::FailWrite(_) => false,
         Act::SpoilFirst { node: n, name: m } => first && node == *n && *name == *m,

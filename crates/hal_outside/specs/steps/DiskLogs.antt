@@ -63,3 +63,19 @@ Tells sight.Further call node name = (before : Option (List ℕ)) → found_afte
 -- the file has another digest now, or is gone
 abbrev pub Spoils : ℕ → Name → List ℕ → List Step → List Step → Type 0
 Spoils node name bytes old new = (new ≡ damage (Remove node name) ∷ old) ⊎ ((spoilt : List ℕ) × (sha256 spoilt ≢ sha256 bytes) × (new ≡ damage (Write node name spoilt) ∷ old))
+
+-- a call writes this file
+abbrev pub Writes : ℕ → Name → Call → Type 0
+Writes node name (Write other other_name bytes) = (node ≡ other) × (name ≡ other_name)
+Writes node name (Read other other_name want answer) = ⊥
+Writes node name (Remove other other_name) = ⊥
+Writes node name (Wipe other) = ⊥
+
+-- a step is a call, and no damage, that writes this file
+abbrev pub IsWriteOf : ℕ → Name → Step → Type 0
+IsWriteOf node name step = (step.cause ≡ why.Call) × Writes node name step.call
+
+-- one of the steps is such a call
+abbrev pub WasWritten : ℕ → Name → List Step → Type 0
+WasWritten node name [] = ⊥
+WasWritten node name (step ∷ steps) = IsWriteOf node name step ⊎ WasWritten node name steps
