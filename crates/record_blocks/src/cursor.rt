@@ -1,13 +1,13 @@
-ghost use Rattle.std.specs.Prelude.{◌≡◌, ℕ, ◌<◌, ◌≤◌, ◌↔◌, IsTrue, List, length, Some, None, IfErr, MatchOption};
+ghost use Rattle.std.specs.Prelude.{◌≡◌, ℕ, ◌<◌, ◌≤◌, ◌↔◌, IsTrue, List, [], length, Some, None, IfErr, MatchOption};
 ghost use Rattle.std.specs.List.{list_all};
 ghost use Rattle.record_blocks.specs.Blocks.{block_head};
 ghost use Rattle.record_blocks.specs.steps.Decoders as decoders;
-ghost use Rattle.record_blocks.specs.steps.Decoders.{Decodes};
+ghost use Rattle.record_blocks.specs.steps.Decoders.{Decodes, DecodesInto, one_behind};
 ghost use Rattle.record_blocks.specs.steps.Exact.{ArePrintable};
 
 use crate::encoding::head_of;
 use crate::fault::TextFault;
-use hal_base::{Fields, Kind, Kinds, Record, Records, Schema, Text, Value};
+use hal_base::{Fields, Kind, Kinds, Memory, Record, Records, Schema, Text, Value};
 use std::alloc::Global;
 use std::marker::Model;
 
@@ -104,7 +104,8 @@ impl<'a> Cursor<'a> {
         ensures { Decodes (decoders.row schema.now self.old) result self.new }
     {
         let key = self.value(alloc, schema.key)?;
-        let fields = self.fields(alloc, &schema.fields)?;
+        let mut fields = Fields::new(alloc);
+        self.fields(alloc, &schema.fields, &mut fields)?;
         Ok(Record { key, fields })
     }
 
@@ -139,27 +140,45 @@ impl<'a> Cursor<'a> {
     fn rows(&mut self, alloc: Global, schema: &Schema, count: u64) -> Result<Records, TextFault>
         ensures { Decodes (decoders.many (decoders.row schema.now) count self.old) result self.new }
     {
-        let mut rows = Records::with_capacity(alloc, room_for(self.len(), schema, count))?;
+        let room = room_for(self.len(), schema, count);
+        let mut rows = Vec::with_capacity(alloc, room).map_err(|_| Memory)?;
         let mut left = count;
         'rows: while left > 0 {
-            let row = self.row(alloc, schema)?;
-            rows.push(row)?;
+            self.one_more(alloc, schema, &mut rows)?;
             left -= 1;
         }
-        Ok(rows)
+        Ok(Records::from_vec(rows))
     }
 
-    /// The fields of a record of these kinds.
-    #[tactic(auto, unfolding(crate::specs::steps::Decoders::values))]
-    fn fields(&mut self, alloc: Global, kinds: &Kinds) -> Result<Fields, TextFault>
-        ensures { Decodes (decoders.values kinds.now self.old) result self.new }
+    /// A record of this schema, behind those that are there. Its fields are read where they stay, since to move them takes
+    /// as long as to read them. After a fault the last record may lack fields.
+    #[tactic(auto, unfolding(crate::specs::steps::Decoders::row))]
+    fn one_more(
+        &mut self,
+        alloc: Global,
+        schema: &Schema,
+        rows: &mut Vec<Record>,
+    ) -> Result<(), TextFault>
+        ensures { DecodesInto (one_behind rows.old.items (decoders.row schema.now self.old)) result rows.new.items self.new }
     {
-        let mut fields = Fields::new(alloc);
+        let key = self.value(alloc, schema.key)?;
+        let fields = Fields::new(alloc);
+        let at = rows.len();
+        rows.push(Record { key, fields }).map_err(|_| Memory)?;
+        self.fields(alloc, &schema.fields, &mut rows[at].fields)
+    }
+
+    /// The fields of a record of these kinds, which has none yet.
+    #[tactic(auto, unfolding(crate::specs::steps::Decoders::values))]
+    fn fields(&mut self, alloc: Global, kinds: &Kinds, fields: &mut Fields) -> Result<(), TextFault>
+        requires { fields.old ≡ [] }
+        ensures { DecodesInto (decoders.values kinds.now self.old) result fields.new self.new }
+    {
         'kinds: for kind in kinds.as_slice() {
             let value = self.value(alloc, *kind)?;
             fields.push(value)?;
         }
-        Ok(fields)
+        Ok(())
     }
 
     /// A value of this kind.

@@ -1,4 +1,4 @@
-ghost use Rattle.std.specs.Prelude.{◌≡◌, ◌+◌, ◌-◌, ◌^◌, ◌≤◌, ◌∷◌, ◌++◌, false, length, min, IfOk, OnOk};
+ghost use Rattle.std.specs.Prelude.{◌≡◌, ◌+◌, ◌-◌, ◌*◌, ◌^◌, ◌≤◌, ◌∷◌, ◌++◌, false, length, min, IfOk, OnOk};
 ghost use Rattle.hal_base.specs.declared.value.Kind.{Kind as Sort};
 ghost use Rattle.std.specs.List.{AllByRecursion, flat_map};
 ghost use Rattle.hal_base.specs.Values.{FitsSchema, IsValue};
@@ -13,7 +13,9 @@ pub fn encode(alloc: Global, rows: &Records, schema: &Schema) -> Result<Vec<u8>,
     requires { AllByRecursion (FitsSchema schema.now) rows.now }
     ensures { IfOk result (λ bytes. IsBlock schema.now bytes.items rows.now) }
 {
-    let mut out = Vec::with_capacity(alloc, block_size(rows, schema) as usize)?;
+    // The bytes of texts are not counted before, since that would read all records twice.
+    let room = head_size(schema).saturating_add(numbers_size(rows, schema));
+    let mut out = Vec::with_capacity(alloc, room as usize)?;
     push_block(&mut out, rows, schema)?;
     Ok(out)
 }
@@ -37,8 +39,14 @@ pub fn block_size(rows: &Records, schema: &Schema) -> u64
     requires { AllByRecursion (FitsSchema schema.now) rows.now }
     ensures { result ≡ min (length (block_text schema.now rows.now)) (2 ^ 64 - 1) }
 {
-    let head = schema.fields.len() as u64 + 14;
-    head.saturating_add(rows_size(rows, schema))
+    head_size(schema).saturating_add(rows_size(rows, schema))
+}
+
+/// How many bytes stand before the first record.
+fn head_size(schema: &Schema) -> u64
+    ensures { result ≡ length schema.now.fields + 14 }
+{
+    schema.fields.len() as u64 + 14
 }
 
 /// How many bytes the records have. Those of numbers alone need not be looked at.
@@ -50,6 +58,13 @@ fn rows_size(rows: &Records, schema: &Schema) -> u64
     if has_texts(schema) {
         return sum_of_sizes(rows);
     }
+    numbers_size(rows, schema)
+}
+
+/// How many bytes the records have if each value is a number, or the greatest `u64` where they have more.
+fn numbers_size(rows: &Records, schema: &Schema) -> u64
+    ensures { result ≡ min (length rows.now * (8 * (length schema.now.fields + 1))) (2 ^ 64 - 1) }
+{
     let width = 8 * (schema.fields.len() as u64 + 1);
     (rows.len() as u64).saturating_mul(width)
 }
@@ -154,8 +169,27 @@ fn push_row(out: &mut Vec<u8>, row: &Record) -> Result<(), Memory>
     ensures pushed { OnOk result (out.new.items ≡ out.old.items ++ record_bytes row.now) }
     ensures values { OnOk result (AreValues row.now) }
 {
+    if let [field] = row.fields.as_slice() {
+        return push_pair(out, &row.key, field);
+    }
     push_value(out, &row.key)?;
     push_fields(out, &row.fields)?;
+    Ok(())
+}
+
+/// The bytes of a key and its one field. Two numbers go in one step, which takes less than a step for each.
+fn push_pair(out: &mut Vec<u8>, key: &Value, field: &Value) -> Result<(), Memory>
+    ensures pushed { OnOk result (out.new.items ≡ out.old.items ++ (value_bytes key.now ++ value_bytes field.now)) }
+    ensures values { OnOk result (IsValue key.now × IsValue field.now) }
+{
+    if let (Value::Int(key), Value::Int(field)) = (key, field) {
+        let (key, field) = (*key, *field);
+        let both = [key.to_be_bytes(), field.to_be_bytes()];
+        out.extend_from_slice(both.as_flattened())?;
+        return Ok(());
+    }
+    push_value(out, key)?;
+    push_value(out, field)?;
     Ok(())
 }
 
@@ -169,6 +203,8 @@ fn push_fields(out: &mut Vec<u8>, fields: &Fields) -> Result<(), Memory>
     Ok(())
 }
 
+// A call for each value would take longer than its bytes.
+#[inline(always)]
 fn push_value(out: &mut Vec<u8>, value: &Value) -> Result<(), Memory>
     ensures pushed { OnOk result (out.new.items ≡ out.old.items ++ value_bytes value.now) }
     ensures value { OnOk result (IsValue value.now) }

@@ -35,6 +35,12 @@ Decodes read (Ok a) new = read ≡ Some (a, new)
 Decodes read (Err fault.Memory) new = Unit {0}
 Decodes read (Err fault.Malformed) new = read ≡ None
 
+-- the same of a function that reads into a place: what is there then
+abbrev pub DecodesInto : {A B : Type 0} → Option (A × List ℕ) → Result B TextFault → A → List ℕ → Type 0
+DecodesInto read (Ok _) made new = read ≡ Some (made, new)
+DecodesInto read (Err fault.Memory) made new = Unit {0}
+DecodesInto read (Err fault.Malformed) made new = read ≡ None
+
 -- the next byte
 unfoldable pub byte : Decoder ℕ
 byte [] = None
@@ -121,6 +127,11 @@ block schema = do
 abbrev pub with_front : {A : Type 0} → List A → Option (List A × List ℕ) → Option (List A × List ℕ)
 with_front front None = None
 with_front front (Some x) = Some (front ++ x.0, x.1)
+
+-- the one thing that was read, behind these
+abbrev pub one_behind : {A : Type 0} → List A → Option (A × List ℕ) → Option (List A × List ℕ)
+one_behind front None = None
+one_behind front (Some x) = Some (front ++ x.0 ∷ [], x.1)
 
 -- what a function that reads the whole ensures: what was read, with nothing behind it
 abbrev pub DecodesWhole : {A : Type 0} → Option (A × List ℕ) → Result A TextFault → Type 0
