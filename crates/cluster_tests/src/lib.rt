@@ -1,5 +1,5 @@
-//! Files on nodes: their texts against vectors, disks on which things go wrong, and who holds which copy; a crate for tests
-//! alone.
+//! Files on nodes: their texts against vectors, disks on which things go wrong, and who holds which copy; schedules, journals
+//! and reports; a crate for tests alone.
 #![tactic(auto)]
 
 #[cfg(test)]
@@ -11,4 +11,6 @@ pub mod samples;
 mod spill_tests;
 #[cfg(test)]
 mod table_tests;
+#[cfg(test)]
+mod text_tests;
 pub mod vectors;

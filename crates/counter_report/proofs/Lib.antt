@@ -1,0 +1,4 @@
+pub mod Counting
+pub mod Distinct
+pub mod Sayings
+pub mod Words

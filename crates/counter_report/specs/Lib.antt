@@ -1,0 +1,5 @@
+pub mod Journals
+pub mod Reports
+pub mod Tallies
+pub mod Worked
+pub mod steps
