@@ -104,8 +104,8 @@ of_name_in name (e ∷ es) d = elim (is_name name e.0) as (λ t. is_name name e.
 
 held_of_name : (name : Name) (node : ℕ) (cs : List Copy) → held name node cs ≡ held name node (of_name name cs)
 held_of_name name node [] = refl
-held_of_name name node (c ∷ cs) = elim (is_name name c.name) as (λ t. is_name name c.name ≡ t → cond (t && (node == c.node)) (Some c.digest) (held name node cs) ≡ held name node (cond t (c ∷ of_name name cs) (of_name name cs))) [
-  | true ↦ λ e. ap (λ h. cond (node == c.node) (Some c.digest) h) (held_of_name name node cs) ∙ ap (λ b. cond (b && (node == c.node)) (Some c.digest) (held name node (of_name name cs))) (sym e)
+held_of_name name node (c ∷ cs) = elim (is_name name c.name) as (λ t. is_name name c.name ≡ t → cond (t && (node == c.node)) (Some c.kept) (held name node cs) ≡ held name node (cond t (c ∷ of_name name cs) (of_name name cs))) [
+  | true ↦ λ e. ap (λ h. cond (node == c.node) (Some c.kept) h) (held_of_name name node cs) ∙ ap (λ b. cond (b && (node == c.node)) (Some c.kept) (held name node (of_name name cs))) (sym e)
   | false ↦ λ e. held_of_name name node cs
 ] refl
 

@@ -1,5 +1,5 @@
 -- Sets of nodes as bits, and as ascending lists.
-use Rattle.std.proofs.Common.{◌≡◌, ℕ, zero, suc, ◌+◌, ◌-◌, ◌*◌, ◌/◌, ◌%◌, ◌^◌, ◌<◌, ◌≤◌, Bool, true, false, cond, not, min, nat_eq, nat_lt, ◌&&◌, ◌||◌, ◌==◌, List, [], ◌∷◌, length, slice_get, Some, count_ones, refl, sym, ap, ◌∙◌, arith}
+use Rattle.std.proofs.Common.{◌≡◌, ℕ, zero, suc, ◌+◌, ◌-◌, ◌*◌, ◌/◌, ◌%◌, ◌^◌, ◌<◌, ◌≤◌, Bool, true, false, cond, max, not, min, nat_eq, nat_lt, ◌&&◌, ◌||◌, ◌==◌, List, [], ◌∷◌, length, slice_get, Some, count_ones, refl, sym, ap, ◌∙◌, arith}
 use Rattle.std.specs.Int.{bit_at, bit_not, w64}
 use Rattle.std.specs.Int.Bits.{bit_or, bit_and}
 use Rattle.std.specs.List.{AllByRecursion, filter, list_any, range_with_len}
@@ -10,7 +10,7 @@ use Rattle.std.proofs.lemmas.Bool.{eqb-true, eqb-false, ltb-true, ltb-false, lt-
 use Rattle.std.proofs.lemmas.Bool.Decides.{nat_tests}
 use Rattle.std.proofs.lemmas.Map.Lookups.{exact_unsigned}
 use Rattle.std.proofs.lemmas.Nat.{ones-le, shr-shr}
-use Rattle.std.proofs.lemmas.Nat.Bits.{bit_at_and, bit_at_ones, bit_at_ones_above, bit_at_set_same, bit_at_set_other, bit_at_clear_same, bit_at_clear_other, bit_at-lt, bit_at-zero, ones_shr}
+use Rattle.std.proofs.lemmas.Nat.Bits.{bit_at_and, bit_at_or, bit_at_ones, bit_at_ones_above, bit_at_set_same, bit_at_set_other, bit_at_clear_same, bit_at_clear_other, bit_at-lt, bit_at-zero, ones_shr}
 use lib.Count.{ones_step}
 use native.Mathlib.Nat.{pow-suc}
 use Rattle.hal_base.specs.Sorted.{by_order, joined}
@@ -28,8 +28,20 @@ low zero (suc (suc y)) a b = absurd (omega arith)
 low (suc zero) (suc (suc y)) a b = absurd (omega arith)
 low (suc (suc x)) y a b = absurd (omega arith)
 
+low_or : (x y : ℕ) → x < 2 → y < 2 → nat_eq (max x y) 1 ≡ (nat_eq x 1 || nat_eq y 1)
+low_or zero zero a b = refl
+low_or zero (suc zero) a b = refl
+low_or (suc zero) zero a b = refl
+low_or (suc zero) (suc zero) a b = refl
+low_or zero (suc (suc y)) a b = absurd (omega arith)
+low_or (suc zero) (suc (suc y)) a b = absurd (omega arith)
+low_or (suc (suc x)) y a b = absurd (omega arith)
+
 pub in_both : (a b n : ℕ) → is_in (bit_and a b) n ≡ (is_in a n && is_in b n)
 in_both a b n = ap (λ bit. nat_eq bit 1) (bit_at_and a b n) ∙ low (bit_at a n) (bit_at b n) (bit_at-lt a n) (bit_at-lt b n)
+
+pub in_one : (a b n : ℕ) → is_in (bit_or a b) n ≡ (is_in a n || is_in b n)
+in_one a b n = ap (λ bit. nat_eq bit 1) (bit_at_or a b n) ∙ low_or (bit_at a n) (bit_at b n) (bit_at-lt a n) (bit_at-lt b n)
 
 pub in_with : (set node : ℕ) (within : node < 64) (n : ℕ) → is_in (bit_or set (1 * 2 ^ node % 2 ^ 64)) n ≡ (n == node || is_in set n)
 in_with set node within n = elim (nat_eq n node) as (λ t. nat_eq n node ≡ t → is_in (bit_or set (1 * 2 ^ node % 2 ^ 64)) n ≡ (t || is_in set n)) [
@@ -220,6 +232,10 @@ members_without old new node h = members_are new (but_one node (members old)) (f
 pub members_both : (a b new : ℕ) → ((q : ℕ) → is_in new q ≡ (is_in a q && is_in b q)) → members new ≡ filter (λ node. among node (members b)) (members a)
 members_both a b new h = members_are new (filter (λ node. among node (members b)) (members a)) (filter_ascend (λ node. among node (members b)) 0 64 (members a) (members_ascend a))
     (λ q low. h q ∙ (λ i. sym (among_members a q low) i && sym (among_members b q low) i) ∙ sym (among_filter (λ node. among node (members b)) q (members a)))
+
+pub members_either : (a b new : ℕ) → ((q : ℕ) → is_in new q ≡ (is_in a q || is_in b q)) → members new ≡ filter (λ node. among node (members a) || among node (members b)) (range_with_len 0 64)
+members_either a b new h = members_are new (filter (λ node. among node (members a) || among node (members b)) (range_with_len 0 64)) (filter_ascend (λ node. among node (members a) || among node (members b)) 0 64 (range_with_len 0 64) (range_ascend 0 64 64 (omega arith)))
+    (λ q low. h q ∙ (λ i. sym (among_members a q low) i || sym (among_members b q low) i) ∙ sym (among_passing (λ node. among node (members a) || among node (members b)) q 0 64 (omega arith) (omega (arith, low))))
 
 -- ---- how many there are
 

@@ -77,6 +77,13 @@ impl NodeSet {
     {
         NodeSet(bits_of_both(self.0, other.0))
     }
+
+    /// The nodes that are in one of the sets.
+    pub fn either(&self, other: NodeSet) -> NodeSet
+        ensures { members result.0 ≡ filter (λ node. among node (members self.now.0) || among node (members other.0)) (range_with_len 0 64) }
+    {
+        NodeSet(bits_of_either(self.0, other.0))
+    }
 }
 
 fn has_bit(bits: u64, node: u32) -> bool
@@ -99,6 +106,12 @@ fn without_bit(bits: u64, node: u32) -> u64
     ensures { (n : ℕ) → n < 64 → is_in result n ≡ (not (n == node) && is_in bits n) }
 {
     bits & !(1 << node)
+}
+
+fn bits_of_either(bits: u64, others: u64) -> u64
+    ensures { (n : ℕ) → is_in result n ≡ (is_in bits n || is_in others n) }
+{
+    bits | others
 }
 
 fn bits_of_both(bits: u64, others: u64) -> u64

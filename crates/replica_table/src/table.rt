@@ -130,7 +130,8 @@ impl Table {
 
     /// The nodes that are up and hold a copy of the file.
     pub fn where_is(&self, name: &Name) -> NodeSet
-        ensures { members result.0 ≡ holders name.now self.now }
+        ensures nodes { members result.0 ≡ holders name.now self.now }
+        ensures order { Ascend 0 self.now.nodes (holders name.now self.now) }
     {
         nodes_of(copies_of(&self.copies, name)).both(self.up)
     }

@@ -45,14 +45,14 @@ and_true true b e = (refl, e)
 and_true false b e = cc
 
 -- what holds of each copy holds of the one that is held
-pub held_has : (P : Name → ℕ → Digest → Type 0) (copies : List Copy) (name : Name) (node : ℕ) (digest : Digest) → AllByRecursion (λ (c : Copy). P c.name c.node c.digest) copies → held name node copies ≡ Some digest → P name node digest
+pub held_has : (P : Name → ℕ → Digest → Type 0) (copies : List Copy) (name : Name) (node : ℕ) (digest : Digest) → AllByRecursion (λ (c : Copy). P c.name c.node c.kept) copies → held name node copies ≡ Some digest → P name node digest
 held_has P [] name node digest a = λ e. cc
-held_has P (c ∷ cs) name node digest a = elim (is_at name node c) as (λ t. is_at name node c ≡ t → (cond t (Some c.digest) (held name node cs)) ≡ Some digest → P name node digest) [
+held_has P (c ∷ cs) name node digest a = elim (is_at name node c) as (λ t. is_at name node c ≡ t → (cond t (Some c.kept) (held name node cs)) ≡ Some digest → P name node digest) [
   | true ↦ λ i e.
       let two = and_true (is_name name c.name) (nat_eq node c.node) i in
       let n : c.name ≡ name = sym (same_by name c.name two.0) in
       let m : c.node ≡ node = sym (eqb-true node c.node two.1) in
-      let d : c.digest ≡ digest = cc in
-      subst (λ x. P name node x) d (subst (λ x. P name x c.digest) m (subst (λ x. P x c.node c.digest) n a.0))
+      let d : c.kept ≡ digest = cc in
+      subst (λ x. P name node x) d (subst (λ x. P name x c.kept) m (subst (λ x. P x c.node c.kept) n a.0))
   | false ↦ λ i e. held_has P cs name node digest a.1 e
 ] refl

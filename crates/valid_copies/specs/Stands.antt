@@ -14,7 +14,7 @@ use Rattle.sha2.specs.Sha256.{sha256}
 
 -- a copy is valid: its kept digest is the SHA-256 of the text of its name
 abbrev pub IsValid : World → Copy → Type 0
-IsValid w copy = option_map sha256 (text_of w copy.name) ≡ Some copy.digest.0
+IsValid w copy = option_map sha256 (text_of w copy.name) ≡ Some copy.kept.0
 
 -- the text of its name was put to its node
 abbrev pub WasPut : World → DiskTold → Copy → Type 0
@@ -32,4 +32,4 @@ IsText text Missed = Unit {0}
 
 -- the copy of these bytes
 abbrev pub copy_of_bytes : Name → ℕ → List ℕ → Copy
-copy_of_bytes name node bytes = record { name = name; node = node; digest = record { 0 = sha256 bytes } }
+copy_of_bytes name node bytes = record { name = name; node = node; kept = record { 0 = sha256 bytes } }
