@@ -1,0 +1,10 @@
+pub mod Blocks
+pub mod Ending
+pub mod Measures
+pub mod Refusals
+pub mod Rounds
+pub mod Standing
+pub mod States
+pub mod Turns
+pub mod Wanting
+pub mod WithoutLoss
