@@ -2,7 +2,7 @@
 use Rattle.std.specs.Prelude.{◌≡◌, List, [], ◌∷◌, Option, None}
 use Rattle.node_names.specs.declared.name.Name.TheVariants.{Blk, Spill, Out, Ric, Roc}
 use Rattle.valid_copies.specs.Texts.{text_of}
-use Rattle.valid_copies.specs.Values.{World, Parts, Rows, value_of}
+use Rattle.name_values.specs.Values.{World, Parts, Rows, value_of}
 use Rattle.row_tests.specs.Programs.{pair, hops, hops_shape, links}
 
 -- distances by hops from node 1, over two links, with one record in a block

@@ -26,7 +26,7 @@ use Rattle.node_files.specs.KeptFiles.{HasDigest, IsFetched, IsFound}
 use Rattle.replica_table.specs.Copies.{Copy, but_file, but_node, held, is_at, with_copy}
 use Rattle.valid_copies.specs.Stands.{IsText, IsValid, Stands, WasPut, copy_of_bytes}
 use Rattle.valid_copies.specs.Texts.{text_of}
-use Rattle.valid_copies.specs.Values.{World}
+use Rattle.name_values.specs.Values.{World}
 use Rattle.valid_copies.proofs.Copies.{all_kept, all_with_copy, held_has}
 use Rattle.sha2.specs.Sha256.{sha256}
 

@@ -9,7 +9,7 @@ use Rattle.node_files.specs.declared.files.Fetched.{Fetched}
 use Rattle.node_files.specs.declared.files.Fetched.TheVariants.{Bytes, Missed}
 use Rattle.replica_table.specs.Copies.{Copy}
 use Rattle.valid_copies.specs.Texts.{text_of}
-use Rattle.valid_copies.specs.Values.{World}
+use Rattle.name_values.specs.Values.{World}
 use Rattle.sha2.specs.Sha256.{sha256}
 
 -- a copy is valid: its kept digest is the SHA-256 of the text of its name

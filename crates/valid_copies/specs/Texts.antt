@@ -19,7 +19,7 @@ use Rattle.node_names.specs.declared.name.Name.TheVariants.{Blk, Spill, Out, Ric
 use Rattle.node_names.specs.declared.name.NameKind.{NameKind}
 use Rattle.node_names.specs.declared.name.NameKind.TheVariants as kind
 use Rattle.node_names.specs.Names.{kind_of}
-use Rattle.valid_copies.specs.Values.{Held, Parts, Rows, World, last, value_of}
+use Rattle.name_values.specs.Values.{Held, Parts, Rows, World, last, value_of}
 
 -- ---- caches
 

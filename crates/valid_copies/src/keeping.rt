@@ -10,7 +10,7 @@ ghost use Rattle.replica_table.specs.Copies.{Copy, but_file, but_node, held, wit
 ghost use Rattle.replica_table.specs.Sets.{among};
 ghost use Rattle.valid_copies.specs.Stands.{IsText, Stands, copy_of_bytes};
 ghost use Rattle.valid_copies.specs.Texts.{text_of};
-ghost use Rattle.valid_copies.specs.Values.{World};
+ghost use Rattle.name_values.specs.Values.{World};
 
 use hal_outside::{DiskFault, Disks};
 use node_files::{Fault, Fetched, FileRef, fetch, put};
