@@ -1,0 +1,13 @@
+pub mod Answering
+pub mod Attempting
+pub mod Fitting
+pub mod LastParts
+pub mod Mapping
+pub mod Numbers
+pub mod Reading
+pub mod Reducing
+pub mod Spills
+pub mod Splits
+pub mod TestReads
+pub mod Testing
+pub mod ValueSchemas
