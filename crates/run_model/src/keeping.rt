@@ -42,10 +42,11 @@ pub fn stays(name: &Name, round: u32, keep: u32, shape: &Shape) -> bool
             ..
         } => made == round || (made == 1 && has_cache(shape, step, source)),
         Name::Out {
-            round: made, step, ..
+            round: made,
+            step,
+            ..
         } => {
-            made == round
-                || (step as usize == shape.steps.len() && kept_round(keep, round) <= made)
+            made == round || (step as usize == shape.steps.len() && kept_round(keep, round) <= made)
         }
         Name::Roc { round: made, .. } => made == round || made == round - 1,
     }
