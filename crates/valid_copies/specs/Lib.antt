@@ -1,2 +1,3 @@
+pub mod Readings
 pub mod Stands
 pub mod Texts

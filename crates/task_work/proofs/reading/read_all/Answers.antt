@@ -1,0 +1,34 @@
+use Rattle.std.proofs.Common.{◌≡◌, ◌∷◌, sym, ap, subst, arith, ◌∙◌}
+use Rattle.std.specs.List.{AllByRecursion}
+use Rattle.node_names.specs.declared.name.Name.{Name}
+use Rattle.task_work.proofs.Coming.{SoFar, so_far_memory, so_far_more, so_far_none, so_far_stopped}
+use Rattle.task_work.specs.Files.{FoundAt, IsFile}
+use Rattle.task_work.proofs.reading.read_all.Goals as goal
+
+pub names-init : goal.names-init
+names-init g c = record {
+  so_far = subst (SoFar c.args.desk.now _ _ _ _ _ _ c.args.names.now c.args.names.now c.args.files.now.items c.args.files.now.items) (sym c.new-lists.ensures) (so_far_none c.args.desk.now _ _ _ c.args.names.now c.args.files.now.items);
+  faults = omega arith;
+  misses = omega arith;
+  all_files = c.requires.all_files;
+}
+
+pub names-preserved : goal.names-preserved
+names-preserved g c =
+    let found = rw c.in-Ok-Some.field-0-is at c.in-Ok-Some.ensures.found in
+    let all = subst (AllByRecursion IsFile) c.in-Some.ensures.cases.0 c.names.invariant.all_files in
+    record {
+      so_far = so_far_more c.args.desk.now _ _ _ _ _ _ c.args.names.now c.names.rest.now c.args.files.now.items c.names.files.items c.names.lists c.names.invariant.so_far _ _ _ c.in-Some.name.now c.in-Some.others.now c.in-Ok-Some.found c.keep.new.files.items c.keep.new.lists
+          c.in-Some.ensures.cases.0 found c.in-Ok-Some.ensures.damage_shown c.in-Ok-Some.ensures.valid c.in-Ok-Some.ensures.soundness_kept c.in-Ok.ensures.files c.in-Ok.ensures.lists;
+      faults = omega (arith, c.names.invariant.faults, c.in-Ok-Some.ensures.faults_stay);
+      misses = omega (arith, c.names.invariant.misses, c.in-Ok-Some.ensures.misses_stay);
+      all_files = all.1;
+    }
+
+pub returns-in-Err-keep-clause-stopped : goal.returns-in-Err-keep-clause-stopped
+returns-in-Err-keep-clause-stopped g c =
+    let found = rw c.in-Ok-Some.field-0-is at c.in-Ok-Some.ensures.found in
+    so_far_memory c.args.desk.now _ _ _ _ _ _ c.args.names.now c.names.rest.now c.args.files.now.items c.names.files.items c.names.lists c.names.invariant.so_far _ c.in-Some.name.now c.in-Some.others.now c.in-Ok-Some.found c.in-Some.ensures.cases.0 found
+
+pub returns-in-Err-clause-stopped : goal.returns-in-Err-clause-stopped
+returns-in-Err-clause-stopped g c = so_far_stopped c.args.desk.now _ _ _ _ _ _ c.args.names.now c.names.rest.now c.args.files.now.items c.names.files.items c.names.lists c.names.invariant.so_far _ c.in-Some.name.now c.in-Some.others.now c.in-Err.fault c.in-Some.ensures.cases.0 c.in-Err.ensures.stopped

@@ -1,0 +1,16 @@
+use Rattle.std.proofs.Common.{◌≤◌, length}
+use Rattle.std.specs.List.{AllByRecursion}
+use Rattle.task_work.proofs.Coming.{SoFar}
+use Rattle.task_work.specs.Files.{IsFile}
+use Rattle.task_work.proofs.reading.read_all.Given as goal
+
+abbrev pub invariant-names : goal.invariant-names
+invariant-names g l = record {
+  so_far : SoFar l.fn.desk (g.D.Disks.shows_damage l.initial.disks) (g.D.Disks.shows_damage l.disks) (g.D.Disks.sound l.initial.disks) (g.D.Disks.sound l.disks) (g.D.Disks.told l.initial.disks) (g.D.Disks.told l.disks) l.fn.names l.rest l.initial.files.items l.files.items l.lists;
+  faults : g.D.Disks.faults l.initial.disks ≤ g.D.Disks.faults l.disks;
+  misses : g.D.Disks.misses l.initial.disks ≤ g.D.Disks.misses l.disks;
+  all_files : AllByRecursion IsFile l.rest;
+}
+
+abbrev pub decreases-names : goal.decreases-names
+decreases-names g l = length l.rest

@@ -1,0 +1,33 @@
+-- Calls on disks, as the cluster's plans have them.
+use Rattle.std.specs.Prelude.{◌≡◌, ◌⊎◌, Bool, true, false, List, [], ◌∷◌, ◌++◌, Option, map}
+use Rattle.std.specs.Option.{option_map}
+use Rattle.hal_outside.specs.DiskCalls as disk
+use Rattle.hal_outside.specs.DiskCalls.{Answer, Same, Gone, Other}
+use Rattle.hal_outside.specs.DiskTold.{DiskTold}
+use Rattle.run_model.specs.Plans as plan
+use Rattle.run_model.specs.Plans.{Leaves, Made, Plan}
+
+-- the answer is not the file
+abbrev pub is_miss : Answer → Bool
+is_miss (Same bytes) = false
+is_miss Gone = true
+is_miss Other = true
+
+-- a call, as a plan has it
+abbrev pub made_of : disk.Call → Made
+made_of (disk.Write node name bytes) = record { call = plan.Write node name; missed = false }
+made_of (disk.Read node name want answer) = record { call = plan.Read node name; missed = is_miss answer }
+made_of (disk.Remove node name) = record { call = plan.Remove node name; missed = false }
+made_of (disk.Wipe node) = record { call = plan.Wipe node; missed = false }
+
+-- these calls were added, where the disks tell
+abbrev pub Added : Option DiskTold → List disk.Call → Option DiskTold → Type 0
+Added before calls after = option_map (λ (told : DiskTold). told.calls) after ≡ option_map (λ (told : DiskTold). told.calls ++ calls) before
+
+-- these calls were added, or all but the last of them, which is this
+abbrev pub AddedAtMost : Option DiskTold → List disk.Call → disk.Call → Option DiskTold → Type 0
+AddedAtMost before calls last after = Added before calls after ⊎ Added before (calls ++ last ∷ []) after
+
+-- after these calls, this is what is left of the plan
+abbrev pub Leads : {A : Type 0} → Plan A → List disk.Call → Plan A → Type 0
+Leads plan calls rest = Leaves plan (map made_of calls) rest

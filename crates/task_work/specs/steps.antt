@@ -1,0 +1,2 @@
+-- What the contracts of private steps say.
+pub mod Tries
