@@ -196,9 +196,9 @@ first_tried desk name c sees =
     let table = desk.table in
     let own = desk.own in
     let seen : tries_for c own name ≡ tries_over own name (bare table.copies) table.up =
-      ap (λ copies. tries_over own name copies c.up) sees.copies ∙ ap (tries_over own name (bare table.copies)) sees.up in
+    ap (λ copies. tries_over own name copies c.up) sees.copies ∙ ap (tries_over own name (bare table.copies)) sees.up in
     let on_own : own_tries (bare table.copies) own name ≡ tries_of (held_file table own name) ++ (tries_of (kept_file table own name) ++ []) =
-      ap (λ ts. ts ++ flat_map (own_try (bare table.copies) own) (cache_of_block name)) (own_tried table own name) ∙ ap (λ ts. tries_of (held_file table own name) ++ ts) (cache_tried table own name) in
+    ap (λ ts. ts ++ flat_map (own_try (bare table.copies) own) (cache_of_block name)) (own_tried table own name) ∙ ap (λ ts. tries_of (held_file table own name) ++ ts) (cache_tried table own name) in
     ap (λ ts. slice_get ts 0) (seen ∙ ap (λ ts. ts ++ others_over own name (bare table.copies) table.up) on_own)
     ∙ first_of_three (held_file table own name) (kept_file table own name) (up_file table name) (others_over own name (bare table.copies) table.up) (λ none.
     let not_own = left_among (λ n. among n table.up) own (nodes_with name table.copies) (not_with table.copies own name (none_held own name (held name own table.copies) none)) in

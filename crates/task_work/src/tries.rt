@@ -53,7 +53,17 @@ fn kept_file(table: &Table, node: u32, name: &Name) -> Option<FileRef>
     ensures { result ≡ kept_file table.now node name.now }
 {
     match *name {
-        Name::Blk { table: number, block } => held_file(table, node, &Name::Mic { table: number, block }),
+        Name::Blk {
+            table: number,
+            block,
+        } => held_file(
+            table,
+            node,
+            &Name::Mic {
+                table: number,
+                block,
+            },
+        ),
         _ => None,
     }
 }
