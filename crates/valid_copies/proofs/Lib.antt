@@ -1,2 +1,4 @@
+pub mod Coming
 pub mod Copies
+pub mod FirstFiles
 pub mod Steps

@@ -1,3 +1,7 @@
+pub mod Calls
+pub mod Faults
+pub mod Files
 pub mod Readings
 pub mod Stands
 pub mod Texts
+pub mod steps

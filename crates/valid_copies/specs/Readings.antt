@@ -6,6 +6,7 @@ use Rattle.hal_base.specs.declared.shape.Shape.{Shape}
 use Rattle.hal_base.specs.Order.{record_cmp}
 use Rattle.hal_base.specs.Sorted.{Ascending}
 use Rattle.node_names.specs.declared.name.Name.{Name}
+use Rattle.node_names.specs.declared.name.Name.TheVariants.{Blk, Spill, Out, Ric, Mic, Roc}
 use Rattle.node_names.specs.declared.name.NameKind.{NameKind}
 use Rattle.node_names.specs.declared.name.NameKind.TheVariants as kind
 use Rattle.node_names.specs.Names.{kind_of}
@@ -43,3 +44,12 @@ OrNone P rows = P rows ⊎ (((others : List Record) → P others → ⊥) × (ro
 -- what the bytes of the name's file stand for
 abbrev pub StandsFor : Shape → Name → List ℕ → ℕ → List Record → Type 0
 StandsFor shape name bytes part rows = OrNone (IsListOf shape name bytes part) rows
+
+-- a file that no other file stands for as a cache: no Ric or Roc
+abbrev pub IsFile : Name → Type 0
+IsFile (Blk t b) = Unit {0}
+IsFile (Spill i j s q) = Unit {0}
+IsFile (Out i j p) = Unit {0}
+IsFile (Ric j s p) = ⊥
+IsFile (Mic t b) = Unit {0}
+IsFile (Roc i p) = ⊥

@@ -1,6 +1,15 @@
-//! Copies of files on nodes that are valid, and calls that keep them so.
+//! Copies of files on nodes that are valid, calls that keep them so, and what an attempt at a task reads of them.
 #![tactic(auto)]
 
+mod desk;
+mod fault;
 mod keeping;
+mod reading;
+mod rows;
+mod tries;
 
+pub use desk::Desk;
+pub use fault::WorkFault;
 pub use keeping::{fetch_copy, put_copy, strike_copy, wipe_node};
+pub use reading::{Found, read_all, read_need};
+pub use rows::{rows_of, schema_of};

@@ -1,8 +1,8 @@
 -- Why an attempt could not go on.
 use Rattle.node_files.specs.declared.fault.Fault.{Fault}
 use Rattle.node_files.specs.declared.fault.Fault.TheVariants as file
-use Rattle.task_work.specs.declared.fault.WorkFault.{WorkFault}
-use Rattle.task_work.specs.declared.fault.WorkFault.TheVariants.{Device, Missed, Memory}
+use Rattle.valid_copies.specs.declared.fault.WorkFault.{WorkFault}
+use Rattle.valid_copies.specs.declared.fault.WorkFault.TheVariants.{Device, Missed, Memory}
 
 -- the fault of a file, as one of an attempt
 abbrev pub fault_of : Fault → WorkFault

@@ -1,9 +1,9 @@
 use Rattle.std.proofs.Common.{subst}
 use Rattle.valid_copies.specs.Readings.{StandsFor}
-use Rattle.task_work.proofs.Coming.{Asks, came_one, failed_one, fetched_added, missed_one, stopped_one}
-use Rattle.task_work.specs.Files.{Any, Desk}
+use Rattle.valid_copies.proofs.Coming.{Asks, came_one, failed_one, fetched_added, missed_one, stopped_one}
+use Rattle.valid_copies.specs.Files.{Any, Desk}
 use Rattle.hal_outside.specs.DiskCalls as disk
-use Rattle.task_work.proofs.reading.read_need.Goals as goal
+use Rattle.valid_copies.proofs.reading.read_need.Goals as goal
 
 pub returns-in-Ok-clause-found : goal.returns-in-Ok-clause-found
 returns-in-Ok-clause-found g c =

@@ -1,9 +1,8 @@
 ghost use Rattle.std.specs.Prelude.{◌≡◌, IfOk};
 ghost use Rattle.std.specs.Option.{option_copied};
-ghost use Rattle.valid_copies.specs.Readings.{StandsFor};
+ghost use Rattle.valid_copies.specs.Readings.{IsFile, StandsFor};
 ghost use Rattle.valid_copies.specs.Texts.{schema_of, stream_schema};
 ghost use Rattle.hal_base.specs.Shapes.{out_schema};
-ghost use Rattle.task_work.specs.Files.{IsFile};
 
 use hal_base::{Memory, Records, Schema, Shape};
 use node_names::Name;

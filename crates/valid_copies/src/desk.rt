@@ -11,7 +11,7 @@ pub struct Desk<'a> {
 }
 
 impl<'a> Model for Desk<'a> {
-    ghost use Rattle.task_work.specs.Files.{Desk as SeenDesk};
+    ghost use Rattle.valid_copies.specs.Files.{Desk as SeenDesk};
 
     ghost Value = { SeenDesk };
 

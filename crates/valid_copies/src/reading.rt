@@ -4,11 +4,13 @@ ghost use Rattle.hal_outside.specs.Told.{Rose};
 ghost use Rattle.replica_table.specs.Copies.{Copy};
 ghost use Rattle.name_values.specs.Values.{World};
 ghost use Rattle.valid_copies.specs.Stands.{Stands};
-ghost use Rattle.task_work.specs.Faults.{AtDevice, AtMissed};
-ghost use Rattle.task_work.specs.Files.{FoundAt, IsFile, ReadOrStarved, StoppedBy};
+ghost use Rattle.valid_copies.specs.Faults.{AtDevice, AtMissed};
+ghost use Rattle.valid_copies.specs.Files.{FoundAt, ReadOrStarved, StoppedBy};
+ghost use Rattle.valid_copies.specs.Readings.{IsFile};
 
 use crate::desk::Desk;
 use crate::fault::WorkFault;
+use crate::keeping::fetch_copy;
 use crate::rows::rows_of;
 use crate::tries::first_try;
 use hal_base::{Memory, Parts, Records};
@@ -16,7 +18,6 @@ use hal_outside::Disks;
 use node_files::{Fault, Fetched, FileRef};
 use node_names::Name;
 use std::alloc::Global;
-use valid_copies::fetch_copy;
 
 /// A file that was read, and the records for which its bytes stand.
 #[derive(Drop)]

@@ -18,7 +18,7 @@ pub enum WorkFault {
 }
 
 impl From<Fault> for WorkFault {
-    ghost use Rattle.task_work.specs.Faults.{fault_of};
+    ghost use Rattle.valid_copies.specs.Faults.{fault_of};
 
     ghost from_gives = { λ fault made. made ≡ fault_of fault };
 
@@ -31,7 +31,7 @@ impl From<Fault> for WorkFault {
 }
 
 impl From<Memory> for WorkFault {
-    ghost use Rattle.task_work.specs.declared.fault.WorkFault.TheVariants as fault;
+    ghost use Rattle.valid_copies.specs.declared.fault.WorkFault.TheVariants as fault;
 
     ghost from_gives = { λ memory made. made ≡ fault.Memory };
 

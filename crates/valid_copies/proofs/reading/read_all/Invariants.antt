@@ -1,8 +1,8 @@
 use Rattle.std.proofs.Common.{◌≤◌, length}
 use Rattle.std.specs.List.{AllByRecursion}
-use Rattle.task_work.proofs.Coming.{SoFar}
-use Rattle.task_work.specs.Files.{IsFile}
-use Rattle.task_work.proofs.reading.read_all.Given as goal
+use Rattle.valid_copies.proofs.Coming.{SoFar}
+use Rattle.valid_copies.specs.Readings.{IsFile}
+use Rattle.valid_copies.proofs.reading.read_all.Given as goal
 
 abbrev pub invariant-names : goal.invariant-names
 invariant-names g l = record {

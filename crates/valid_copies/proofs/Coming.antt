@@ -18,12 +18,12 @@ use Rattle.node_files.specs.KeptFiles.{IsFetched}
 use Rattle.node_files.specs.declared.files.FileRef.{FileRef}
 use Rattle.node_files.specs.declared.files.Fetched.TheVariants.{Bytes, Missed}
 use Rattle.valid_copies.specs.Stands.{Stands}
-use Rattle.task_work.specs.Calls.{Added}
-use Rattle.task_work.specs.declared.reading.Found.{Found}
-use Rattle.task_work.specs.declared.fault.WorkFault.{WorkFault}
-use Rattle.task_work.specs.declared.fault.WorkFault.TheVariants.{Device, Memory}
-use Rattle.task_work.specs.declared.fault.WorkFault.TheVariants as fault
-use Rattle.task_work.specs.Files.{AllRead, Any, AreRead, Came, Desk, FileRead, FoundAt, IsFirstTry, IsNext, IsText, Misses, StarvedAt, Stopped, StoppedBy, call_of, try_of}
+use Rattle.valid_copies.specs.Calls.{Added}
+use Rattle.valid_copies.specs.declared.reading.Found.{Found}
+use Rattle.valid_copies.specs.declared.fault.WorkFault.{WorkFault}
+use Rattle.valid_copies.specs.declared.fault.WorkFault.TheVariants.{Device, Memory}
+use Rattle.valid_copies.specs.declared.fault.WorkFault.TheVariants as fault
+use Rattle.valid_copies.specs.Files.{AllRead, Any, AreRead, Came, Desk, FileRead, FoundAt, IsFirstTry, IsNext, Misses, ReadsText, StarvedAt, Stopped, StoppedBy, call_of, try_of}
 
 abbrev calls_in : DiskTold → List disk.Call
 calls_in told = told.calls
@@ -147,7 +147,7 @@ pub came_more : (desk : Desk) (shows shows' : Type 0) (before middle after : Opt
 came_more desk shows shows' before middle after names more reads others carried a b = record {
   each = are_both desk names more reads others a.each b.each;
   added = subst (λ calls. Added before calls after) (sym (map-append call_of reads others)) (added_more before middle after (map call_of reads) (map call_of others) a.added b.added);
-  texts = λ s t w valid. all_both (IsText w) reads others (a.texts s t w valid) (b.texts (carried.shown s) (still_told before middle (map call_of reads) a.added t) w (carried.stands w valid));
+  texts = λ s t w valid. all_both (ReadsText w) reads others (a.texts s t w valid) (b.texts (carried.shown s) (still_told before middle (map call_of reads) a.added t) w (carried.stands w valid));
 }
 
 next_more : (desk : Desk) (more others : List Name) (last : List disk.Call) → IsNext desk more last → IsNext desk (more ++ others) last

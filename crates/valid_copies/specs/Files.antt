@@ -4,31 +4,20 @@ use Rattle.std.specs.List.{AllByRecursion}
 use Rattle.hal_base.specs.declared.record.Record.{Record}
 use Rattle.hal_base.specs.declared.shape.Shape.{Shape}
 use Rattle.node_names.specs.declared.name.Name.{Name}
-use Rattle.node_names.specs.declared.name.Name.TheVariants.{Blk, Spill, Out, Ric, Mic, Roc}
 use Rattle.hal_outside.specs.DiskCalls as disk
 use Rattle.hal_outside.specs.DiskTold.{DiskTold}
 use Rattle.node_files.specs.declared.files.FileRef.{FileRef}
 use Rattle.replica_table.specs.Copies.{Replicas, held}
 use Rattle.run_model.specs.Reading.{Try, tries_for, try_at}
 use Rattle.run_model.specs.State.{PlainCluster, bare}
-use Rattle.task_values.specs.Reads.{Answer}
 use Rattle.name_values.specs.Values.{World}
 use Rattle.valid_copies.specs.Readings.{StandsFor}
 use Rattle.valid_copies.specs.Stands.{Stands}
 use Rattle.valid_copies.specs.Texts.{text_of}
-use Rattle.task_work.specs.Calls.{Added, made_of}
-use Rattle.task_work.specs.declared.fault.WorkFault.{WorkFault}
-use Rattle.task_work.specs.declared.fault.WorkFault.TheVariants.{Device, Missed, Memory}
-use Rattle.task_work.specs.declared.reading.Found.{Found}
-
--- a file that no other file stands for as a cache: no Ric or Roc
-abbrev pub IsFile : Name → Type 0
-IsFile (Blk t b) = Unit {0}
-IsFile (Spill i j s q) = Unit {0}
-IsFile (Out i j p) = Unit {0}
-IsFile (Ric j s p) = ⊥
-IsFile (Mic t b) = Unit {0}
-IsFile (Roc i p) = ⊥
+use Rattle.valid_copies.specs.Calls.{Added, made_of}
+use Rattle.valid_copies.specs.declared.fault.WorkFault.{WorkFault}
+use Rattle.valid_copies.specs.declared.fault.WorkFault.TheVariants.{Device, Missed, Memory}
+use Rattle.valid_copies.specs.declared.reading.Found.{Found}
 
 -- the cluster has the copies and the up nodes of this table
 pub record Sees (table : Replicas) (c : PlainCluster) : Type 0 where
@@ -52,9 +41,6 @@ pub record FileRead : Type 0 where
 abbrev pub call_of : FileRead → disk.Call
 call_of it = disk.Read it.file.node it.file.name it.file.digest.0 (disk.Same it.bytes)
 
-abbrev pub answer_of : FileRead → Answer
-answer_of it = record { name = it.file.name; list = it.rows }
-
 abbrev pub try_of : FileRef → Try
 try_of file = try_at file.name file.node
 
@@ -76,15 +62,15 @@ AreRead desk (name ∷ names) [] = ⊥
 AreRead desk (name ∷ names) (it ∷ reads) = IsRead desk name it × AreRead desk names reads
 
 -- the bytes are the text of the file's name
-abbrev pub IsText : World → FileRead → Type 0
-IsText w it = text_of w it.file.name ≡ Some it.bytes
+abbrev pub ReadsText : World → FileRead → Type 0
+ReadsText w it = text_of w it.file.name ≡ Some it.bytes
 
 -- these needs were read, by these calls and no others; where the disks show their damage and the copies are valid, texts
 -- were read
 pub record Came (desk : Desk) (shows : Type 0) (before : Option DiskTold) (names : List Name) (reads : List FileRead) (after : Option DiskTold) : Type 0 where
   pub each : AreRead desk names reads
   pub added : Added before (map call_of reads) after
-  pub texts : shows → IsSome before → (w : World) → Stands w desk.table.copies before → AllByRecursion (IsText w) reads
+  pub texts : shows → IsSome before → (w : World) → Stands w desk.table.copies before → AllByRecursion (ReadsText w) reads
 
 -- ---- reads that end before all needs are read
 

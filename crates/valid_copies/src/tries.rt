@@ -1,7 +1,8 @@
 ghost use Rattle.std.specs.Prelude.{◌<◌, ◌≡◌, IfSome, option_map};
 ghost use Rattle.replica_table.specs.Copies.{held};
-ghost use Rattle.task_work.specs.Files.{IsFile, IsFirstTry, try_of};
-ghost use Rattle.task_work.specs.steps.Tries.{first_file, held_file, kept_file, up_file};
+ghost use Rattle.valid_copies.specs.Files.{IsFirstTry, try_of};
+ghost use Rattle.valid_copies.specs.Readings.{IsFile};
+ghost use Rattle.valid_copies.specs.steps.Tries.{first_file, held_file, kept_file, up_file};
 
 use crate::desk::Desk;
 use node_files::FileRef;

@@ -14,8 +14,9 @@ use Rattle.run_model.proofs.Bare.{bare_up}
 use Rattle.run_model.specs.Reading.{Try, cache_of_block, other_tries, own_tries, own_try, tries_for, try_at}
 use Rattle.run_model.specs.State.{PlainCluster, bare, holds}
 use Rattle.run_model.specs.State.{Copy as Bare}
-use Rattle.task_work.specs.Files.{Desk, IsFile, IsFirstTry, Sees, try_of}
-use Rattle.task_work.specs.steps.Tries.{file_at, first_file, held_file, kept_file, or_else, up_file}
+use Rattle.valid_copies.specs.Files.{Desk, IsFirstTry, Sees, try_of}
+use Rattle.valid_copies.specs.Readings.{IsFile}
+use Rattle.valid_copies.specs.steps.Tries.{file_at, first_file, held_file, kept_file, or_else, up_file}
 
 -- ---- the kept digest
 

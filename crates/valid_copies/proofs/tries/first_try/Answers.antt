@@ -2,9 +2,10 @@ use Rattle.std.proofs.Common.{◌≡◌, Option, Some, sym, subst}
 use Rattle.std.specs.Prelude.{IfSome, option_map}
 use Rattle.replica_table.specs.Copies.{held}
 use Rattle.node_files.specs.declared.files.FileRef.{FileRef}
-use Rattle.task_work.proofs.FirstFiles.{first_is, first_kept, first_tried}
-use Rattle.task_work.specs.Files.{Desk, IsFile, IsFirstTry, try_of}
-use Rattle.task_work.proofs.tries.first_try.Goals as goal
+use Rattle.valid_copies.proofs.FirstFiles.{first_is, first_kept, first_tried}
+use Rattle.valid_copies.specs.Files.{Desk, IsFirstTry, try_of}
+use Rattle.valid_copies.specs.Readings.{IsFile}
+use Rattle.valid_copies.proofs.tries.first_try.Goals as goal
 
 pub returns-clause-first : goal.returns-clause-first
 returns-clause-first c =
