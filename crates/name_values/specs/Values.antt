@@ -27,6 +27,11 @@ pub data Held : Type 0 where
   Rows : List Record → Held
   Parts : List (List Record) → Held
 
+-- the list that a file holds, or its section of this part
+abbrev pub list_of : ℕ → Held → List Record
+list_of p (Rows rows) = rows
+list_of p (Parts sections) = table_at sections p
+
 -- part p of what step j leaves in round i
 abbrev pub out_of : World → ℕ → ℕ → ℕ → List Record
 out_of w i j p = out w.means w.shape w.tables i j p

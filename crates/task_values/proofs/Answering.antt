@@ -4,9 +4,9 @@ use Rattle.std.specs.List.{AllByRecursion, filter, flat_map}
 use Rattle.hal_base.specs.declared.record.Record.{Record}
 use Rattle.node_names.specs.declared.name.Name.{Name}
 use Rattle.node_names.specs.declared.name.Name.TheVariants.{Blk, Mic, Out, Ric, Roc, Spill}
-use Rattle.name_values.specs.Values.{World, value_of}
+use Rattle.name_values.specs.Values.{World, list_of, value_of}
 use Rattle.task_values.specs.Attempts.{names_of}
-use Rattle.task_values.specs.Reads.{Answer, AreOfValues, all_lists, list_of}
+use Rattle.task_values.specs.Reads.{Answer, AreOfValues, all_lists}
 use Rattle.task_values.proofs.Reading.{FilesRead, IsFor}
 
 module _ (w : World) (p : ℕ) where

@@ -11,7 +11,7 @@ use Rattle.sorted_parts.specs.Spills.{spilled}
 use Rattle.node_names.specs.declared.name.Name.{Name}
 use Rattle.node_names.specs.declared.task.Task.{Task}
 use Rattle.node_names.specs.declared.task.Task.TheVariants.{Map}
-use Rattle.name_values.specs.Values.{Parts, Rows, World, block_of, split_at, split_of, value_of}
+use Rattle.name_values.specs.Values.{Parts, Rows, World, block_of, list_of, split_at, split_of, value_of}
 use Rattle.run_model.specs.Attempts.{block_kept, made_by}
 use Rattle.run_model.specs.Lists.{IsIn}
 use Rattle.run_model.specs.Needs.{inputs}
@@ -19,7 +19,7 @@ use Rattle.run_model.specs.Sites.{kept_block, kept_split}
 use Rattle.run_model.specs.Tasks as tasks
 use Rattle.run_model.specs.Tasks.{count_in, split}
 use Rattle.task_values.specs.Attempts.{names_of}
-use Rattle.task_values.specs.Reads.{Answer, AreOfValues, all_lists, computed, list_of}
+use Rattle.task_values.specs.Reads.{Answer, AreOfValues, all_lists, computed}
 use Rattle.task_values.proofs.Answering.{files_same, list_in, lists_are}
 use Rattle.task_values.proofs.Reading.{InputsRead}
 use Rattle.task_values.proofs.Splits.{origin_file}

@@ -18,9 +18,8 @@ use Rattle.plain_job.proofs.Schemas.{item_there}
 use Rattle.plain_job.proofs.Sections.{sections_make_the_part, sections_serve_each_round, splits_make_the_section}
 use Rattle.node_names.specs.declared.name.Name.{Name}
 use Rattle.node_names.specs.declared.name.Name.TheVariants.{Spill}
-use Rattle.name_values.specs.Values.{World, cached_of, out_of, value_of}
+use Rattle.name_values.specs.Values.{World, cached_of, list_of, out_of, value_of}
 use Rattle.run_model.specs.Tasks.{is_cached, last, source_count, source_numbers, splits}
-use Rattle.task_values.specs.Reads.{list_of}
 use Rattle.task_values.specs.Sections.{CachesMakeTheOutput, CachesServe, IsPart, SpillsHaveSections, SpillsMakeTheOutput, SpillsMakeTheSection, merged, split_rows, stream_section, taken_of}
 use Rattle.task_values.specs.Worlds.{WorldFits}
 use Rattle.task_values.proofs.Numbers.{range_is}

@@ -6,7 +6,6 @@ use Rattle.hal_base.specs.declared.shape.Shape.{Shape}
 use Rattle.hal_base.specs.Meaning.{Meaning}
 use Rattle.hal_base.specs.Order.{record_cmp}
 use Rattle.hal_base.specs.Sorted.{sorted}
-use Rattle.plain_job.specs.Chain.{table_at}
 use Rattle.plain_job.specs.Distances.{distance_by}
 use Rattle.plain_job.specs.Job.{job}
 use Rattle.sorted_parts.specs.Spills.{spilled}
@@ -14,7 +13,7 @@ use Rattle.node_names.specs.declared.name.Name.{Name}
 use Rattle.node_names.specs.declared.name.Name.TheVariants.{Blk, Spill, Out, Ric, Mic, Roc}
 use Rattle.node_names.specs.declared.task.Task.{Task}
 use Rattle.node_names.specs.declared.task.Task.TheVariants.{Map, Reduce, Test}
-use Rattle.name_values.specs.Values.{Held, Parts, Rows, World, value_of}
+use Rattle.name_values.specs.Values.{Held, Parts, Rows, World, list_of, value_of}
 use Rattle.run_model.specs.Tasks.{source_numbers}
 
 -- a file that was read, and the list that its bytes stand for: of a spill the section of the task's part
@@ -99,11 +98,6 @@ abbrev pub tested : Meaning → ℕ → List Answer → ℕ
 tested m i answers = distance_by m.distance (all_lists (of_others i answers)) (all_lists (of_round i answers))
 
 -- ---- reads of values
-
--- the list that a value is, or its section of this part
-abbrev pub list_of : ℕ → Held → List Record
-list_of p (Rows rows) = rows
-list_of p (Parts sections) = table_at sections p
 
 -- the list of an answer is that of the value of its name, of a spill its section p
 abbrev pub IsOfValue : World → ℕ → Answer → Type 0

@@ -9,9 +9,8 @@ use Rattle.plain_job.specs.Chain.{source_list, stream_of, together}
 use Rattle.plain_job.specs.Job.{job}
 use Rattle.plain_job.specs.Sections.{section, source_section}
 use Rattle.node_names.specs.declared.name.Name.TheVariants.{Spill}
-use Rattle.name_values.specs.Values.{Rows, World, cached_of, out_of, split_at, value_of}
+use Rattle.name_values.specs.Values.{Rows, World, cached_of, list_of, out_of, split_at, value_of}
 use Rattle.run_model.specs.Tasks.{count_in, is_cached, last, source_numbers, spills, split, splits}
-use Rattle.task_values.specs.Reads.{list_of}
 use Rattle.task_values.specs.Worlds.{HasBlocks, WorldFits}
 
 -- ---- splits

@@ -7,10 +7,9 @@ use Rattle.plain_job.specs.Distances.{distance_by}
 use Rattle.plain_job.specs.Ends.{round_distance}
 use Rattle.node_names.specs.declared.name.Name.{Name}
 use Rattle.node_names.specs.declared.name.Name.TheVariants.{Out, Roc}
-use Rattle.name_values.specs.Values.{World, out_of, value_of}
+use Rattle.name_values.specs.Values.{World, list_of, out_of, value_of}
 use Rattle.run_model.specs.Lists.{below}
 use Rattle.run_model.specs.Tasks.{last, last_outs, test_count}
-use Rattle.task_values.specs.Reads.{list_of}
 use Rattle.task_values.specs.Worlds.{WorldFits}
 
 -- how far the functions tell that new records are from old ones

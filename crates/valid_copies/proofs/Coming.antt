@@ -5,7 +5,7 @@ use Rattle.std.proofs.lemmas.List.{map-append}
 use Rattle.std.specs.List.{AllByRecursion}
 use Rattle.node_names.specs.declared.name.Name.{Name}
 use Rattle.hal_outside.specs.DiskCalls as disk
-use Rattle.hal_outside.specs.DiskTold.{DiskTold, Done, NotDone, NotRead, OnMiss}
+use Rattle.hal_outside.specs.DiskTold.{DiskTold, Done, NotDone, NotRead}
 use Rattle.hal_outside.specs.Told.{OnTold}
 use Rattle.hal_base.specs.declared.record.Record.{Record}
 use Rattle.name_values.specs.Values.{World}

@@ -1,7 +1,7 @@
 -- The file that is tried first is the first of those that a plan tries.
-use Rattle.std.proofs.Common.{◌≡◌, ℕ, zero, suc, ◌<◌, ◌≤◌, ◌+◌, Bool, true, false, ◌&&◌, ◌||◌, not, cond, List, [], ◌∷◌, ◌++◌, ◌==◌, Option, None, Some, refl, sym, ap, subst, ◌∙◌, map, is_some, slice_get, arith}
+use Rattle.std.proofs.Common.{◌≡◌, ℕ, ◌<◌, Bool, true, false, ◌&&◌, ◌||◌, not, cond, List, [], ◌∷◌, ◌++◌, ◌==◌, Option, None, Some, refl, sym, ap, subst, ◌∙◌, map, is_some, slice_get}
 use Rattle.std.specs.Prelude.{option_map, IfSome, if◌then◌else◌}
-use Rattle.std.specs.List.{filter, flat_map, list_any}
+use Rattle.std.specs.List.{filter, flat_map}
 use Rattle.std.specs.Option.{option_and_then}
 use Rattle.std.proofs.lemmas.Bool.{eq-eqb, eqb-true, false≢true}
 use Rattle.node_names.specs.declared.digest.Digest.{Digest}
@@ -11,10 +11,10 @@ use Rattle.node_files.specs.declared.files.FileRef.{FileRef}
 use Rattle.replica_table.specs.Copies.{Copy, Replicas, held, holders, is_at, is_name, nodes_with, of_name, up_holders}
 use Rattle.replica_table.specs.Sets.{Ascend, among}
 use Rattle.run_model.proofs.Bare.{bare_up}
-use Rattle.run_model.specs.Reading.{Try, cache_of_block, other_tries, own_tries, own_try, tries_for, try_at}
-use Rattle.run_model.specs.State.{PlainCluster, bare, holds}
+use Rattle.run_model.specs.Reading.{Try, cache_of_block, own_tries, own_try, tries_for, try_at}
+use Rattle.run_model.specs.State.{bare, holds}
 use Rattle.run_model.specs.State.{Copy as Bare}
-use Rattle.valid_copies.specs.Files.{Desk, IsFirstTry, Sees, try_of}
+use Rattle.valid_copies.specs.Files.{Desk, IsFirstTry, try_of}
 use Rattle.valid_copies.specs.Readings.{IsFile}
 use Rattle.valid_copies.specs.steps.Tries.{file_at, first_file, held_file, kept_file, or_else, up_file}
 

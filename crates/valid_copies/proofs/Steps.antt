@@ -12,6 +12,11 @@ use Rattle.std.proofs.lemmas.Map.Lookups.{exact_bytes}
 use Rattle.node_names.specs.declared.name.Name.{Name}
 use Rattle.node_names.specs.declared.name.Name.TheVariants.{Blk, Spill, Out, Ric, Mic, Roc}
 use Rattle.node_names.specs.declared.digest.Digest.{Digest}
+use Rattle.node_names.specs.declared.name.NameKind.{NameKind}
+use Rattle.node_names.specs.declared.name.NameKind.TheVariants as kind
+use Rattle.node_names.specs.Names.{kind_of}
+use Rattle.hal_base.specs.declared.fields.Schema.{Schema}
+use Rattle.hal_base.specs.declared.record.Record.{Record}
 use Rattle.plain_job.proofs.Lists.{all_weaker}
 use Rattle.hal_outside.specs.Damage.{ShowsAt, ShowsDamage}
 use Rattle.hal_outside.specs.DiskCalls.{Wipe, Write}
@@ -25,8 +30,9 @@ use Rattle.node_files.specs.declared.files.Fetched.TheVariants.{Bytes, Missed}
 use Rattle.node_files.specs.KeptFiles.{HasDigest, IsFetched, IsFound}
 use Rattle.replica_table.specs.Copies.{Copy, but_file, but_node, held, is_at, with_copy}
 use Rattle.valid_copies.specs.Stands.{IsText, IsValid, Stands, WasPut, copy_of_bytes}
-use Rattle.valid_copies.specs.Texts.{text_of}
-use Rattle.name_values.specs.Values.{World}
+use Rattle.valid_copies.specs.Readings.{HasText, IsTextOf, IsTextOfHeld, IsTextOfRows, OfSchema}
+use Rattle.valid_copies.specs.Texts.{held_text, rows_text, schema_of, text_of}
+use Rattle.name_values.specs.Values.{Held, Parts, Rows, World, value_of}
 use Rattle.valid_copies.proofs.Copies.{all_kept, all_with_copy, held_has}
 use Rattle.sha2.specs.Sha256.{sha256}
 
@@ -82,10 +88,30 @@ written_new w files n b bytes is = at_written files n n b b bytes true ((eq_by_c
 after_wipe : (files : DiskMap) (node m : ℕ) (b : Name) → file_at (without_node files node) m b ≡ cond (not (nat_eq node m)) (file_at files m b) None
 after_wipe files node m b = fmap.get-retain_keys files (λ k. not (is_on node k)) (file_key m b) (λ x e. ap (λ k. not (is_on node k)) (sym (exact_bytes (file_key m b) x e)))
 
+-- ---- texts
+
+rows_are : (k : NameKind) (schema : Schema) (bytes : List ℕ) (rows : List Record) → IsTextOfRows k schema bytes rows → rows_text k schema rows ≡ bytes
+rows_are kind.Blk schema bytes rows is = sym is.text
+rows_are kind.Spill schema bytes rows is = absurd is
+rows_are kind.Out schema bytes rows is = sym is.text
+rows_are kind.Ric schema bytes rows is = sym is.text
+rows_are kind.Mic schema bytes rows is = sym is.text
+rows_are kind.Roc schema bytes rows is = sym is.text
+
+held_is : (k : NameKind) (bytes : List ℕ) (held : Held) (schema : Option Schema) → OfSchema (IsTextOfHeld k bytes held) schema → option_map (held_text k held) schema ≡ Some bytes
+held_is k bytes held None is = absurd is
+held_is k bytes (Rows rows) (Some schema) is = ap (λ b. Some b) (rows_are k schema bytes rows is)
+held_is k bytes (Parts parts) (Some schema) is = ap (λ b. Some b) (sym is.text)
+
+-- the text of a name is the one that its value has
+pub text_is : (w : World) (name : Name) (bytes : List ℕ) → IsTextOf w.shape name bytes (value_of w name) → text_of w name ≡ Some bytes
+text_is w name bytes is = held_is (kind_of name) bytes (value_of w name) (schema_of w.shape name) is
+
 -- ---- the steps
 
-put_stands : (w : World) (copies : List Copy) (old new : Option DiskTold) (node : ℕ) (name : Name) (bytes : List ℕ) → OnTold (Done (Write node name bytes)) old new → text_of w name ≡ Some bytes → Stands w copies old → Stands w (with_copy (copy_of_bytes name node bytes) copies) new
-put_stands w copies old new node name bytes o is s = record {
+put_stands : (w : World) (copies : List Copy) (old new : Option DiskTold) (node : ℕ) (name : Name) (bytes : List ℕ) → OnTold (Done (Write node name bytes)) old new → IsTextOf w.shape name bytes (value_of w name) → Stands w copies old → Stands w (with_copy (copy_of_bytes name node bytes) copies) new
+put_stands w copies old new node name bytes o text s = let is : text_of w name ≡ Some bytes = text_is w name bytes text in record {
+  spelled = all_with_copy (λ (copy : Copy). HasText w copy.name) (copy_of_bytes name node bytes) copies (record { bytes = bytes; is = text }) s.spelled;
   valid = all_with_copy (IsValid w) (copy_of_bytes name node bytes) copies (ap (option_map sha256) is) s.valid;
   put = carried (Done (Write node name bytes)) (λ t. AllByRecursion (WasPut w t) copies) (λ u. AllByRecursion (WasPut w u) (with_copy (copy_of_bytes name node bytes) copies)) old new o
       (λ t u r p. all_with_copy (WasPut w u) (copy_of_bytes name node bytes) copies
@@ -93,18 +119,20 @@ put_stands w copies old new node name bytes o is s = record {
       (all_weaker (WasPut w t) (WasPut w u) copies (λ c q. ap (λ files. file_at files c.node c.name) r.put ∙ written_put w t.put node name bytes c is q) p)) s.put;
 }
 
-pub any_put : (result : Result FileRef Fault) (old new : Option DiskTold) (node : ℕ) (name : Name) (bytes : List ℕ) → OnOk result (OnTold (Done (Write node name bytes)) old new) → OnOk result ((w : World) (copies : List Copy) → text_of w name ≡ Some bytes → Stands w copies old → Stands w (with_copy (copy_of_bytes name node bytes) copies) new)
+pub any_put : (result : Result FileRef Fault) (old new : Option DiskTold) (node : ℕ) (name : Name) (bytes : List ℕ) → OnOk result (OnTold (Done (Write node name bytes)) old new) → OnOk result ((w : World) (copies : List Copy) → IsTextOf w.shape name bytes (value_of w name) → Stands w copies old → Stands w (with_copy (copy_of_bytes name node bytes) copies) new)
 any_put (Ok file) old new node name bytes o = λ w copies is s. put_stands w copies old new node name bytes o is s
 any_put (Err fault) old new node name bytes o = tt
 
 pub strike_stands : (w : World) (copies : List Copy) (told : Option DiskTold) (name : Name) (node : ℕ) → Stands w copies told → Stands w (but_file name node copies) told
 strike_stands w copies told name node s = record {
+  spelled = all_kept (λ (c : Copy). HasText w c.name) (λ (c : Copy). HasText w c.name) (λ c. not (is_at name node c)) copies (λ c e q. q) s.spelled;
   valid = all_kept (IsValid w) (IsValid w) (λ c. not (is_at name node c)) copies (λ c e q. q) s.valid;
   put = in_told (λ t. AllByRecursion (WasPut w t) copies) (λ t. AllByRecursion (WasPut w t) (but_file name node copies)) told (λ t p. all_kept (WasPut w t) (WasPut w t) (λ c. not (is_at name node c)) copies (λ c e q. q) p) s.put;
 }
 
 pub wipe_stands : (w : World) (copies : List Copy) (old new : Option DiskTold) (node : ℕ) → OnTold (Done (Wipe node)) old new → Stands w copies old → Stands w (but_node node copies) new
 wipe_stands w copies old new node o s = record {
+  spelled = all_kept (λ (c : Copy). HasText w c.name) (λ (c : Copy). HasText w c.name) (λ c. not (nat_eq node c.node)) copies (λ c e q. q) s.spelled;
   valid = all_kept (IsValid w) (IsValid w) (λ c. not (nat_eq node c.node)) copies (λ c e q. q) s.valid;
   put = carried (Done (Wipe node)) (λ t. AllByRecursion (WasPut w t) copies) (λ u. AllByRecursion (WasPut w u) (but_node node copies)) old new o
       (λ t u r p. all_kept (WasPut w t) (WasPut w u) (λ c. not (nat_eq node c.node)) copies
@@ -114,6 +142,7 @@ wipe_stands w copies old new node o s = record {
 -- what puts nothing keeps the copies valid
 read_stands : (w : World) (copies : List Copy) (R : DiskTold → DiskTold → Type 0) (old new : Option DiskTold) → ((t u : DiskTold) → R t u → u.put ≡ t.put) → OnTold R old new → Stands w copies old → Stands w copies new
 read_stands w copies R old new same o s = record {
+  spelled = s.spelled;
   valid = s.valid;
   put = carried R (λ t. AllByRecursion (WasPut w t) copies) (λ u. AllByRecursion (WasPut w u) copies) old new o (λ t u r p. all_weaker (WasPut w t) (WasPut w u) copies (λ c q. ap (λ files. file_at files c.node c.name) (same t u r) ∙ q) p) s.put;
 }

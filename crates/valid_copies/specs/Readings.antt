@@ -11,7 +11,8 @@ use Rattle.node_names.specs.declared.name.NameKind.{NameKind}
 use Rattle.node_names.specs.declared.name.NameKind.TheVariants as kind
 use Rattle.node_names.specs.Names.{kind_of}
 use Rattle.record_blocks.specs.Blocks.{FitBlock, IsBlock}
-use Rattle.partition_shuffle.specs.SpillTexts.{IsSection}
+use Rattle.partition_shuffle.specs.SpillTexts.{IsSection, IsSpill}
+use Rattle.name_values.specs.Values.{Held, Parts, Rows, World, value_of}
 use Rattle.valid_copies.specs.Texts.{cache_text, schema_of}
 
 -- the bytes are the cache text of these records of the schema, which are in order
@@ -53,3 +54,27 @@ IsFile (Out i j p) = Unit {0}
 IsFile (Ric j s p) = ⊥
 IsFile (Mic t b) = Unit {0}
 IsFile (Roc i p) = ⊥
+
+-- ---- what a file holds
+
+-- the bytes of a file of this sort are the text of these records of the schema; no spill is one of records without parts
+abbrev pub IsTextOfRows : NameKind → Schema → List ℕ → List Record → Type 0
+IsTextOfRows kind.Blk schema bytes rows = IsBlock schema bytes rows
+IsTextOfRows kind.Spill schema bytes rows = ⊥
+IsTextOfRows kind.Out schema bytes rows = IsBlock schema bytes rows
+IsTextOfRows kind.Ric schema bytes rows = IsCache schema bytes rows
+IsTextOfRows kind.Mic schema bytes rows = IsBlock schema bytes rows
+IsTextOfRows kind.Roc schema bytes rows = IsCache schema bytes rows
+
+abbrev pub IsTextOfHeld : NameKind → List ℕ → Held → Schema → Type 0
+IsTextOfHeld kind bytes (Rows rows) schema = IsTextOfRows kind schema bytes rows
+IsTextOfHeld kind bytes (Parts parts) schema = IsSpill schema bytes parts
+
+-- the bytes are the text of what the name's file holds
+abbrev pub IsTextOf : Shape → Name → List ℕ → Held → Type 0
+IsTextOf shape name bytes held = OfSchema (IsTextOfHeld (kind_of name) bytes held) (schema_of shape name)
+
+-- the value of a name has a text
+pub record HasText (w : World) (name : Name) : Type 0 where
+  pub bytes : List ℕ
+  pub is : IsTextOf w.shape name bytes (value_of w name)

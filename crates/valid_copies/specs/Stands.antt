@@ -8,6 +8,7 @@ use Rattle.hal_outside.specs.DiskTold.{DiskTold}
 use Rattle.node_files.specs.declared.files.Fetched.{Fetched}
 use Rattle.node_files.specs.declared.files.Fetched.TheVariants.{Bytes, Missed}
 use Rattle.replica_table.specs.Copies.{Copy}
+use Rattle.valid_copies.specs.Readings.{HasText}
 use Rattle.valid_copies.specs.Texts.{text_of}
 use Rattle.name_values.specs.Values.{World}
 use Rattle.sha2.specs.Sha256.{sha256}
@@ -20,9 +21,10 @@ IsValid w copy = option_map sha256 (text_of w copy.name) ≡ Some copy.kept.0
 abbrev pub WasPut : World → DiskTold → Copy → Type 0
 WasPut w told copy = file_at told.put copy.node copy.name ≡ text_of w copy.name
 
--- each copy is valid and, where the disks tell, was put to its node
+-- each copy is valid, of a name whose value has a text, and, where the disks tell, was put to its node
 pub record Stands (w : World) (copies : List Copy) (told : Option DiskTold) : Type 0 where
   pub valid : AllByRecursion (IsValid w) copies
+  pub spelled : AllByRecursion (λ (copy : Copy). HasText w copy.name) copies
   pub put : IfSome told (λ it. AllByRecursion (WasPut w it) copies)
 
 -- what was fetched is this text, if it was not missed

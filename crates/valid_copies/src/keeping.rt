@@ -8,9 +8,10 @@ ghost use Rattle.node_files.specs.Faults.{AtDevice};
 ghost use Rattle.node_files.specs.KeptFiles.{HasDigest, IsFetched, IsFound, OnMissed, file_of};
 ghost use Rattle.replica_table.specs.Copies.{Copy, but_file, but_node, held, with_copy};
 ghost use Rattle.replica_table.specs.Sets.{among};
+ghost use Rattle.valid_copies.specs.Readings.{IsTextOf};
 ghost use Rattle.valid_copies.specs.Stands.{IsText, Stands, copy_of_bytes};
 ghost use Rattle.valid_copies.specs.Texts.{text_of};
-ghost use Rattle.name_values.specs.Values.{World};
+ghost use Rattle.name_values.specs.Values.{World, value_of};
 
 use hal_outside::{DiskFault, Disks};
 use node_files::{Fault, Fetched, FileRef, fetch, put};
@@ -34,7 +35,7 @@ pub fn put_copy<D: Disks>(
     ensures not_missed { IsSome (D.told disks.old) → D.misses disks.new ≡ D.misses disks.old }
     ensures done { OnOk result (OnTold (Done (call.Write node name.now bytes.now)) (D.told disks.old) (D.told disks.new)) }
     ensures failed { OnErr result (OnTold (NotDone (call.Write node name.now bytes.now)) (D.told disks.old) (D.told disks.new)) }
-    ensures valid { OnOk result ((w : World) (copies : List Copy) → text_of w name.now ≡ Some bytes.now → Stands w copies (D.told disks.old) → Stands w (with_copy (copy_of_bytes name.now node bytes.now) copies) (D.told disks.new)) }
+    ensures valid { OnOk result ((w : World) (copies : List Copy) → IsTextOf w.shape name.now bytes.now (value_of w name.now) → Stands w copies (D.told disks.old) → Stands w (with_copy (copy_of_bytes name.now node bytes.now) copies) (D.told disks.new)) }
     ensures damage_shown { D.shows_damage disks.old → D.shows_damage disks.new }
     ensures soundness_kept { D.sound disks.old → D.sound disks.new }
 {

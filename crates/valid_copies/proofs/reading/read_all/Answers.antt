@@ -1,8 +1,6 @@
-use Rattle.std.proofs.Common.{◌≡◌, ◌∷◌, sym, ap, subst, arith, ◌∙◌}
+use Rattle.std.proofs.Common.{sym, subst, arith}
 use Rattle.std.specs.List.{AllByRecursion}
-use Rattle.node_names.specs.declared.name.Name.{Name}
 use Rattle.valid_copies.proofs.Coming.{SoFar, so_far_memory, so_far_more, so_far_none, so_far_stopped}
-use Rattle.valid_copies.specs.Files.{FoundAt}
 use Rattle.valid_copies.specs.Readings.{IsFile}
 use Rattle.valid_copies.proofs.reading.read_all.Goals as goal
 
