@@ -130,7 +130,7 @@ are_both desk [] more (it ∷ reads) others a b = absurd a
 are_both desk (name ∷ names) more [] others a b = absurd a
 are_both desk (name ∷ names) more (it ∷ reads) others a b = (a.0, are_both desk names more reads others a.1 b)
 
-all_both : {A : Type 0} (P : A → Type 0) (xs ys : List A) → AllByRecursion P xs → AllByRecursion P ys → AllByRecursion P (xs ++ ys)
+pub all_both : {A : Type 0} (P : A → Type 0) (xs ys : List A) → AllByRecursion P xs → AllByRecursion P ys → AllByRecursion P (xs ++ ys)
 all_both P [] ys a b = b
 all_both P (x ∷ xs) ys a b = (a.0, all_both P xs ys a.1 b)
 

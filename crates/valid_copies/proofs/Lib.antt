@@ -1,4 +1,5 @@
 pub mod Coming
 pub mod Copies
 pub mod FirstFiles
+pub mod Following
 pub mod Steps

@@ -1,5 +1,6 @@
 -- Calls on disks, as the cluster's plans have them.
 use Rattle.std.specs.Prelude.{◌≡◌, ◌⊎◌, Bool, true, false, List, [], ◌∷◌, ◌++◌, Option, map}
+use Rattle.std.specs.List.{AllByRecursion}
 use Rattle.std.specs.Option.{option_map}
 use Rattle.hal_outside.specs.DiskCalls as disk
 use Rattle.hal_outside.specs.DiskCalls.{Answer, Same, Gone, Other}
@@ -31,3 +32,31 @@ AddedAtMost before calls last after = Added before calls after ⊎ Added before 
 -- after these calls, this is what is left of the plan
 abbrev pub Leads : {A : Type 0} → Plan A → List disk.Call → Plan A → Type 0
 Leads plan calls rest = Leaves plan (map made_of calls) rest
+
+-- none of these calls missed
+abbrev pub AreAnswered : List disk.Call → Type 0
+AreAnswered calls = AllByRecursion (λ call. (made_of call).missed ≡ false) calls
+
+-- calls were added, none of which missed, and they led from a plan to what is left of it
+pub record Follows {A : Type 0} (plan : Plan A) (before after : Option DiskTold) (rest : Plan A) : Type 0 where
+  pub calls : List disk.Call
+  pub answered : AreAnswered calls
+  pub added : Added before calls after
+  pub leads : Leads plan calls rest
+
+-- calls were added that are the first of a plan, whatever is left of it
+pub record Begun {A : Type 0} (plan : Plan A) (before after : Option DiskTold) : Type 0 where
+  pub calls : List disk.Call
+  pub rest : Plan A
+  pub added : Added before calls after
+  pub leads : Leads plan calls rest
+
+-- calls were added that are the first of a plan, and the last of them missed, and no other
+pub record MissedIn {A : Type 0} (plan : Plan A) (before after : Option DiskTold) : Type 0 where
+  pub done : List disk.Call
+  pub last : disk.Call
+  pub rest : Plan A
+  pub answered : AreAnswered done
+  pub missed : (made_of last).missed ≡ true
+  pub added : Added before (done ++ last ∷ []) after
+  pub leads : Leads plan (done ++ last ∷ []) rest
