@@ -23,7 +23,8 @@ use Rattle.run_model.specs.Removals.{clear, removals}
 use Rattle.run_model.specs.Runs.{state_of}
 use Rattle.run_model.specs.Sites.{site}
 use Rattle.run_model.specs.Start.{first_ready, start_first, started}
-use Rattle.run_model.specs.State.{Attempt, Copy, PlainCluster, Setup, copy, holds, noted, with_copies}
+use Rattle.run_model.specs.declared.attempt.Attempt.{Attempt}
+use Rattle.run_model.specs.State.{Copy, PlainCluster, Setup, copy, holds, noted, with_copies}
 use Rattle.run_model.specs.Stays.{stays}
 use Rattle.run_model.specs.Turns.{turn}
 use Rattle.run_laws.specs.Blocks.{BlockCopiesKeep, BlockKept}

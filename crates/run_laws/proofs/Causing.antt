@@ -21,7 +21,8 @@ use Rattle.run_model.specs.Plans.{Call, Plan, TaskFailed, asks, do_all, does, gi
 use Rattle.run_model.specs.Reading.{ReadSoFar, Reading, Try, after_cache, after_read, after_tries, misses, nothing_read, own_try, read_files, read_first, read_input, read_inputs, read_need, reading, starved, strike, tries_for, unless_last, with_unread}
 use Rattle.run_model.specs.Removals.{clear, removals}
 use Rattle.run_model.specs.Start.{goal_of, start}
-use Rattle.run_model.specs.State.{Attempt, PlainCluster, Setup, noted, with_copies}
+use Rattle.run_model.specs.declared.attempt.Attempt.{Attempt}
+use Rattle.run_model.specs.State.{PlainCluster, Setup, noted, with_copies}
 use Rattle.run_model.specs.Stays.{stays}
 use Rattle.run_model.specs.Tasks.{last_outs}
 use Rattle.run_model.specs.Turns.{acted, go_on}

@@ -17,7 +17,8 @@ use Rattle.run_model.specs.PlanLaws.{Always}
 use Rattle.run_model.specs.Plans.{BlockLost, NoNode, gives, refuses, ◌>>=◌}
 use Rattle.run_model.specs.Runs.{state_of}
 use Rattle.run_model.specs.Start.{start}
-use Rattle.run_model.specs.State.{Attempt, PlainCluster, Setup}
+use Rattle.run_model.specs.declared.attempt.Attempt.{Attempt}
+use Rattle.run_model.specs.State.{PlainCluster, Setup}
 use Rattle.run_model.specs.Tasks.{last_outs}
 use Rattle.run_model.specs.Turns.{Turned, acted, ends, go_on, turn}
 use Rattle.run_laws.specs.Ending.{Any, MeasureFalls, OnActed}

@@ -14,7 +14,8 @@ use Rattle.run_model.specs.Needs.{inputs, is_there, needs}
 use Rattle.run_model.specs.PlanLaws.{Always}
 use Rattle.run_model.specs.Plans.{Call, Write, gives}
 use Rattle.run_model.specs.Reading.{ReadSoFar, Reading, nothing_read, read_inputs, reading, starved}
-use Rattle.run_model.specs.State.{Attempt, Copy, PlainCluster, Setup, copy}
+use Rattle.run_model.specs.declared.attempt.Attempt.{Attempt}
+use Rattle.run_model.specs.State.{Copy, PlainCluster, Setup, copy}
 use Rattle.run_model.specs.Tasks.{is_task}
 use Rattle.run_laws.specs.Ending.{Any}
 use Rattle.run_laws.specs.Measures.{all_tasks, blocked_tasks, is_blocked, left, open_copies, places, readable, work}

@@ -12,7 +12,8 @@ use Rattle.replica_table.specs.Sets.{among}
 use Rattle.run_model.specs.Attempts.{with_known}
 use Rattle.run_model.specs.Lists.{IsIn}
 use Rattle.run_model.specs.Needs.{Input, holds_cache, inputs, is_there, is_up, needs, unless}
-use Rattle.run_model.specs.State.{Attempt, Copy, holds}
+use Rattle.run_model.specs.declared.attempt.Attempt.{Attempt}
+use Rattle.run_model.specs.State.{Copy, holds}
 use Rattle.run_model.specs.Wanted.{is_empty}
 use Rattle.run_laws.specs.Measures.{readable}
 use Rattle.run_laws.specs.States.{is_open}

@@ -21,7 +21,8 @@ use Rattle.run_model.specs.Reading.{ReadSoFar, Try, is_struck, misses, nothing_r
 use Rattle.run_model.specs.Removals.{clear, removals}
 use Rattle.run_model.specs.Sites.{site}
 use Rattle.run_model.specs.Start.{first_ready, start_first, started}
-use Rattle.run_model.specs.State.{Attempt, PlainCluster, Setup, noted, with_copies}
+use Rattle.run_model.specs.declared.attempt.Attempt.{Attempt}
+use Rattle.run_model.specs.State.{PlainCluster, Setup, noted, with_copies}
 use Rattle.run_model.specs.Stays.{stays}
 use Rattle.run_laws.specs.Measures.{left}
 use Rattle.run_laws.proofs.Counting.{number_append}

@@ -30,7 +30,8 @@ use Rattle.run_model.specs.Removals.{clear, removals}
 use Rattle.run_model.specs.Runs.{state_of}
 use Rattle.run_model.specs.Sites.{site}
 use Rattle.run_model.specs.Start.{first_ready, goal_of, is_running, start_first, started}
-use Rattle.run_model.specs.State.{Attempt, Copy, PlainCluster, Setup, holds, noted, with_copies}
+use Rattle.run_model.specs.declared.attempt.Attempt.{Attempt}
+use Rattle.run_model.specs.State.{Copy, PlainCluster, Setup, holds, noted, with_copies}
 use Rattle.run_model.specs.Stays.{stays}
 use Rattle.run_model.specs.Tasks.{is_task, tasks_until, test_count}
 use Rattle.run_model.specs.Turns.{turn}

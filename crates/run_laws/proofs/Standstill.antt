@@ -22,7 +22,8 @@ use Rattle.run_model.specs.Needs.{Input, View, busy_nodes, idle_nodes, inputs, i
 use Rattle.run_model.specs.Plans.{BlockLost, NoNode, refuses}
 use Rattle.run_model.specs.Sites.{favoured, favourite, held_of, holds_one, in_turn_of, kept_split, most, site, site_among}
 use Rattle.run_model.specs.Start.{first_ready, goal_of, is_running, start, start_first, start_one, start_some, started}
-use Rattle.run_model.specs.State.{Attempt, Copy, PlainCluster, Setup}
+use Rattle.run_model.specs.declared.attempt.Attempt.{Attempt}
+use Rattle.run_model.specs.State.{Copy, PlainCluster, Setup}
 use Rattle.run_model.specs.Tasks.{is_cached, is_task, last, last_outs, maker, source_numbers, spills, split, split_in, split_of, splits, tasks_until, test_count}
 use Rattle.run_model.specs.Wanted.{Goal, IsWanted, asked_by, block_in, first_missing_block, goals, is_asked, is_empty, is_goal, least_name, lesser, listed, missing_at, missing_blocks, missing_of, missing_parts, ready, ready_at, unknown_tests, wanted}
 use Rattle.run_laws.specs.Standing.{ActRefuses, IsRefused, NoStandstill, NoneReady}

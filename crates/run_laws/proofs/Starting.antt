@@ -7,7 +7,8 @@ use Rattle.run_model.specs.Lists.{IsIn}
 use Rattle.run_model.specs.Needs.{view_of}
 use Rattle.run_model.specs.Sites.{site}
 use Rattle.run_model.specs.Start.{first_ready, goal_of, is_running, start_first, start_one, start_some, started}
-use Rattle.run_model.specs.State.{Attempt, PlainCluster, Setup}
+use Rattle.run_model.specs.declared.attempt.Attempt.{Attempt}
+use Rattle.run_model.specs.State.{PlainCluster, Setup}
 use Rattle.run_model.specs.Tasks.{is_task}
 use Rattle.run_model.specs.Wanted.{ready, ready_at, wanted}
 use Rattle.run_laws.specs.Measures.{all_tasks, is_blocked, left, readable, work}

@@ -20,7 +20,9 @@ use Rattle.run_model.specs.Reading.{ReadSoFar, Try, is_struck, misses, nothing_r
 use Rattle.run_model.specs.Removals.{clear, removals}
 use Rattle.run_model.specs.Sites.{site}
 use Rattle.run_model.specs.Start.{first_ready, start_first, started}
-use Rattle.run_model.specs.State.{Attempt, Failed, PlainCluster, Setup, noted, with_copies}
+use Rattle.run_model.specs.declared.attempt.Attempt.{Attempt}
+use Rattle.run_model.specs.declared.attempt.Failed.{Failed}
+use Rattle.run_model.specs.State.{PlainCluster, Setup, noted, with_copies}
 use Rattle.run_model.specs.Stays.{stays}
 use Rattle.run_model.specs.Tasks.{is_task}
 use Rattle.run_laws.specs.Refusals.{FailuresFit, Tallied, TalliedAtMost, TurnTallies}

@@ -23,7 +23,8 @@ use Rattle.run_model.specs.Plans.{Plan, TaskFailed, gives, refuses}
 use Rattle.run_model.specs.Reading.{ReadSoFar, Reading, Tried, Try, after_cache, after_read, after_tries, misses, own_try, read_files, read_first, read_input, read_inputs, read_need, reading, starved, strike, tries_for, unless_last, with_unread}
 use Rattle.run_model.specs.Runs.{state_of}
 use Rattle.run_model.specs.Start.{goal_of, start, start_one, start_some}
-use Rattle.run_model.specs.State.{Attempt, PlainCluster, Setup, noted, with_copies}
+use Rattle.run_model.specs.declared.attempt.Attempt.{Attempt}
+use Rattle.run_model.specs.State.{PlainCluster, Setup, noted, with_copies}
 use Rattle.run_model.specs.Tasks.{last_outs}
 use Rattle.run_model.specs.Turns.{acted, go_on, turn}
 use Rattle.run_model.specs.Wanted.{first_missing_block}

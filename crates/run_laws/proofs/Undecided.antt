@@ -18,7 +18,8 @@ use Rattle.run_model.specs.Plans.{BlockLost, NoNode, Plan, gives, refuses}
 use Rattle.run_model.specs.Reading.{Tried, Try, after_read, misses, read_first, strike, try_at, unless_last}
 use Rattle.run_model.specs.Removals.{clear, removals}
 use Rattle.run_model.specs.Start.{goal_of, start}
-use Rattle.run_model.specs.State.{Attempt, Copy, PlainCluster, Setup, holds, noted, with_copies}
+use Rattle.run_model.specs.declared.attempt.Attempt.{Attempt}
+use Rattle.run_model.specs.State.{Copy, PlainCluster, Setup, holds, noted, with_copies}
 use Rattle.run_model.specs.Stays.{stays}
 use Rattle.run_model.specs.Tasks.{last, last_outs}
 use Rattle.run_model.specs.Wanted.{first_missing_block}

@@ -28,7 +28,8 @@ use Rattle.run_model.specs.Removals.{clear, removals}
 use Rattle.run_model.specs.Runs.{state_of}
 use Rattle.run_model.specs.Sites.{site}
 use Rattle.run_model.specs.Start.{first_ready, goal_of, start, start_first, start_one, start_some, started}
-use Rattle.run_model.specs.State.{Attempt, Copy, PlainCluster, Setup, holds, noted, with_copies}
+use Rattle.run_model.specs.declared.attempt.Attempt.{Attempt}
+use Rattle.run_model.specs.State.{Copy, PlainCluster, Setup, holds, noted, with_copies}
 use Rattle.run_model.specs.Stays.{kept_round, stays}
 use Rattle.run_model.specs.Tasks.{IsTask, is_task, last, last_outs, tasks_of_round, tasks_until}
 use Rattle.run_model.specs.Turns.{Turned, acted, go_on, turn}

@@ -21,7 +21,8 @@ use Rattle.run_model.specs.Needs.{Input, inputs, reduce_input, test_inputs}
 use Rattle.run_model.specs.Plans.{Call, Read, Remove, Wipe, Write}
 use Rattle.run_model.specs.Reading.{Reading, is_cache}
 use Rattle.run_model.specs.Sites.{kept_block, kept_split}
-use Rattle.run_model.specs.State.{Attempt, Copy, Setup, copy, holds}
+use Rattle.run_model.specs.declared.attempt.Attempt.{Attempt}
+use Rattle.run_model.specs.State.{Copy, Setup, copy, holds}
 use Rattle.run_model.specs.Tasks.{count_in, is_cached, last, source_numbers, split_count, tasks_until}
 use Rattle.run_laws.specs.Rounds.{NameFits}
 use Rattle.run_laws.specs.States.{CopiesFit, IsNow, is_open}

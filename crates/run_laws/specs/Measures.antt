@@ -6,7 +6,8 @@ use Rattle.node_names.specs.declared.task.Task.{Task}
 use Rattle.run_model.specs.Lists.{below, number_of}
 use Rattle.run_model.specs.Needs.{is_there, needs}
 use Rattle.run_model.specs.Reading.{misses}
-use Rattle.run_model.specs.State.{Attempt, Copy, PlainCluster, Setup}
+use Rattle.run_model.specs.declared.attempt.Attempt.{Attempt}
+use Rattle.run_model.specs.State.{Copy, PlainCluster, Setup}
 use Rattle.run_model.specs.Tasks.{is_task, tasks_until}
 use Rattle.run_model.specs.Wanted.{is_empty}
 use Rattle.run_laws.specs.States.{is_open}

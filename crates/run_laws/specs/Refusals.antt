@@ -9,7 +9,8 @@ use Rattle.run_model.specs.Plans.{BlockLost, Misses, NoNode, Plan, Refusal, Task
 use Rattle.run_model.specs.Reading.{misses}
 use Rattle.run_model.specs.Runs.{state_of}
 use Rattle.run_model.specs.Start.{goal_of}
-use Rattle.run_model.specs.State.{Failed, PlainCluster, Setup}
+use Rattle.run_model.specs.declared.attempt.Failed.{Failed}
+use Rattle.run_model.specs.State.{PlainCluster, Setup}
 use Rattle.run_model.specs.Turns.{turn}
 use Rattle.run_model.specs.Wanted.{first_missing_block}
 

@@ -13,7 +13,8 @@ use Rattle.counter_report.specs.declared.journal.EndWord.{EndWord}
 use Rattle.run_model.specs.Lists.{IsIn, number_of}
 use Rattle.run_model.specs.PlanLaws.{Always}
 use Rattle.run_model.specs.Runs.{loaded, state_of}
-use Rattle.run_model.specs.State.{Attempt, Copy, PlainCluster, Setup, holds}
+use Rattle.run_model.specs.declared.attempt.Attempt.{Attempt}
+use Rattle.run_model.specs.State.{Copy, PlainCluster, Setup, holds}
 use Rattle.run_model.specs.Tasks.{tasks_until, test_count}
 use Rattle.run_model.specs.Turns.{turn}
 use Rattle.run_laws.specs.Rounds.{NameFits}

@@ -1,8 +1,8 @@
 -- Copies without what is kept with them: the same names on the same nodes.
-use Rattle.std.proofs.Common.{◌≡◌, ℕ, Bool, true, false, ◌&&◌, ◌||◌, cond, List, [], ◌∷◌, ◌==◌, nat_lt, not, refl, sym, ap, ◌∙◌, map}
-use Rattle.std.specs.List.{filter, list_any}
+use Rattle.std.proofs.Common.{◌≡◌, ℕ, Bool, true, false, ◌&&◌, ◌||◌, cond, List, [], ◌∷◌, ◌==◌, nat_lt, not, refl, ap, map}
+use Rattle.std.specs.List.{filter}
 use Rattle.node_names.specs.declared.name.Name.{Name}
-use Rattle.replica_table.specs.Copies.{CopyWith, among_its_own, but_file, but_node, but_those, copy_at, is_at, is_name, nodes_with, of_name, up_holders, with_copy}
+use Rattle.replica_table.specs.Copies.{CopyWith, among_its_own, but_file, but_node, but_those, is_at, is_name, nodes_with, of_name, up_holders, with_copy}
 use Rattle.replica_table.specs.Sets.{among}
 use Rattle.run_model.specs.State.{Copy, bare, copy, holds}
 

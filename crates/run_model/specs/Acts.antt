@@ -18,7 +18,9 @@ use Rattle.run_model.specs.Plans as plan
 use Rattle.run_model.specs.Plans.{Plan, gives, refuses, does, TaskFailed, NoNode, BlockLost}
 use Rattle.run_model.specs.Removals.{clear}
 use Rattle.run_model.specs.Start.{goal_of}
-use Rattle.run_model.specs.State.{Attempt, Failed, PlainCluster, Setup, noted, with_copies}
+use Rattle.run_model.specs.declared.attempt.Attempt.{Attempt}
+use Rattle.run_model.specs.declared.attempt.Failed.{Failed}
+use Rattle.run_model.specs.State.{PlainCluster, Setup, noted, with_copies}
 use Rattle.run_model.specs.Tasks.{is_task}
 use Rattle.run_model.specs.Wanted.{first_missing_block}
 

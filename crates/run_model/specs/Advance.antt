@@ -13,7 +13,8 @@ use Rattle.run_model.specs.Needs.{is_up}
 use Rattle.run_model.specs.Plans.{Plan, gives, ◌>>=◌}
 use Rattle.run_model.specs.Reading.{Try, read_first, try_at}
 use Rattle.run_model.specs.Removals.{clear}
-use Rattle.run_model.specs.State.{Attempt, PlainCluster, Setup, noted}
+use Rattle.run_model.specs.declared.attempt.Attempt.{Attempt}
+use Rattle.run_model.specs.State.{PlainCluster, Setup, noted}
 use Rattle.run_model.specs.Tasks.{last_outs, test_count}
 
 -- the round is decided: each part of its last step lies on an up node and, from round 2 on, the value of each test is known

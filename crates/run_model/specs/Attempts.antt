@@ -1,5 +1,5 @@
 -- An attempt that is done: what it writes, and its line.
-use Rattle.std.specs.Prelude.{ℕ, ◌-◌, ◌==◌, ◌%◌, nat_lt, Bool, ◌&&◌, not, List, [], ◌∷◌, ◌++◌, map, length, take, if◌then◌else◌}
+use Rattle.std.specs.Prelude.{ℕ, ◌-◌, ◌==◌, ◌%◌, nat_lt, ◌&&◌, not, List, [], ◌∷◌, ◌++◌, map, length, take, if◌then◌else◌}
 use Rattle.std.specs.List.{filter, flat_map}
 use Rattle.std.specs.Ordering.{nat_cmp}
 use Rattle.hal_base.specs.Shapes.{source_at}
@@ -18,7 +18,8 @@ use Rattle.run_model.specs.Needs.{inputs}
 use Rattle.run_model.specs.Plans.{Plan, gives, ◌>>=◌, do_all, Call, Wipe, Write, Read, Remove}
 use Rattle.run_model.specs.Reading.{ReadSoFar, Reading, nothing_read, read_inputs, reading, starved}
 use Rattle.run_model.specs.Sites.{kept_split}
-use Rattle.run_model.specs.State.{Attempt, Copy, PlainCluster, Setup, copy, noted}
+use Rattle.run_model.specs.declared.attempt.Attempt.{Attempt}
+use Rattle.run_model.specs.State.{Copy, PlainCluster, Setup, copy, noted}
 use Rattle.run_model.specs.Tasks.{last}
 
 -- ---- on the own node

@@ -11,7 +11,8 @@ use Rattle.replica_table.specs.Copies.{nodes_with}
 use Rattle.replica_table.specs.Sets.{among}
 use Rattle.schedule_text.specs.declared.schedule.Event.{Event}
 use Rattle.run_model.specs.Lists.{number_of}
-use Rattle.run_model.specs.State.{Attempt, Copy, PlainCluster, Setup, holds}
+use Rattle.run_model.specs.declared.attempt.Attempt.{Attempt}
+use Rattle.run_model.specs.State.{Copy, PlainCluster, Setup, holds}
 use Rattle.run_model.specs.Tasks.{is_cached, last, last_outs, source_numbers, spills, split}
 
 -- what placement looks at: the shape, the copies, the nodes that are up, and those of them that are idle

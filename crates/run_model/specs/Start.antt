@@ -1,11 +1,12 @@
 -- Start: ready tasks begin to run.
-use Rattle.std.specs.Prelude.{ℕ, zero, suc, ◌*◌, Bool, ◌&&◌, not, List, [], ◌∷◌, ◌++◌, Option, None, Some}
+use Rattle.std.specs.Prelude.{ℕ, zero, suc, ◌*◌, Bool, ◌&&◌, not, [], ◌∷◌, ◌++◌, Option, None, Some}
 use Rattle.std.specs.List.{find, list_any}
 use Rattle.node_names.specs.declared.task.Task.{Task}
 use Rattle.counter_report.specs.declared.journal.Entry.TheVariants as line
 use Rattle.run_model.specs.Needs.{view_of}
 use Rattle.run_model.specs.Sites.{site}
-use Rattle.run_model.specs.State.{Attempt, PlainCluster, Setup}
+use Rattle.run_model.specs.declared.attempt.Attempt.{Attempt}
+use Rattle.run_model.specs.State.{PlainCluster, Setup}
 use Rattle.run_model.specs.Tasks.{is_task}
 use Rattle.run_model.specs.Wanted.{Goal, ready, wanted}
 

@@ -1,13 +1,14 @@
 -- The cluster as plain lists: what its nodes hold and run, and what is still to come.
-use Rattle.std.specs.Prelude.{ℕ, Bool, List, [], ◌∷◌, ◌++◌, map}
+use Rattle.std.specs.Prelude.{ℕ, Bool, List, ◌++◌, map}
 use Rattle.std.specs.List.{list_any}
 use Rattle.hal_base.specs.declared.shape.Shape.{Shape}
 use Rattle.node_names.specs.declared.name.Name.{Name}
-use Rattle.node_names.specs.declared.task.Task.{Task}
 use Rattle.replica_table.specs.Copies.{CopyWith, copy_at, is_at}
 use Rattle.schedule_text.specs.declared.schedule.Event.{Event}
 use Rattle.schedule_text.specs.declared.schedule.Schedule.{Schedule}
 use Rattle.counter_report.specs.declared.journal.Entry.{Entry}
+use Rattle.run_model.specs.declared.attempt.Attempt.{Attempt}
+use Rattle.run_model.specs.declared.attempt.Failed.{Failed}
 
 -- a copy of the file of a name on a node
 abbrev pub Copy : Type 0
@@ -19,16 +20,6 @@ copy name node = copy_at name node tt
 -- copies without what is kept with them
 abbrev pub bare : {A : Type 0} → List (CopyWith A) → List Copy
 bare copies = map (λ it. copy it.name it.node) copies
-
--- an attempt at a task, and the node that runs it
-pub record Attempt : Type 0 where
-  pub task : Task
-  pub node : ℕ
-
--- how many attempts at a task failed
-pub record Failed : Type 0 where
-  pub task : Task
-  pub count : ℕ
 
 -- what a run is given: the program's shape, and the schedule
 pub record Setup : Type 0 where

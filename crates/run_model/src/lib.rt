@@ -2,10 +2,12 @@
 //! journal has.
 #![tactic(auto)]
 
+mod attempt;
 mod keeping;
 mod rows;
 mod sources;
 
+pub use attempt::{Attempt, Failed};
 pub use keeping::stays;
 pub use rows::worked_rows;
 pub use sources::source_of;

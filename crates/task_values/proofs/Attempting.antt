@@ -14,7 +14,8 @@ use Rattle.run_model.specs.Lists.{IsIn}
 use Rattle.run_model.specs.Needs.{Input, inputs}
 use Rattle.run_model.specs.Plans.{Call, Leaves, Made, Plan, Read, Remove, Wipe, Write, asks, do_all, does, gives, refuses, ◌>>=◌}
 use Rattle.run_model.specs.Reading.{ReadSoFar, Reading, Try, after_cache, after_read, after_tries, misses, nothing_read, own_try, read_files, read_first, read_input, read_inputs, read_need, reading, starved, strike, tries_for, unless_last, with_unread}
-use Rattle.run_model.specs.State.{Attempt, PlainCluster, Setup, noted}
+use Rattle.run_model.specs.declared.attempt.Attempt.{Attempt}
+use Rattle.run_model.specs.State.{PlainCluster, Setup, noted}
 use Rattle.run_model.specs.Tasks.{IsTask}
 use Rattle.run_model.proofs.PlanSteps.{leaves_split}
 use Rattle.task_values.specs.Attempts.{AttemptsAreRight, DoneIsRight, ReadingsAreRight, WritesAreRight, answered, answered_by, calls_of, names_of, setup_of}

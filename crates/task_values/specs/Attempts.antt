@@ -13,7 +13,8 @@ use Rattle.run_model.specs.Lists.{IsIn}
 use Rattle.run_model.specs.Needs.{inputs}
 use Rattle.run_model.specs.Plans.{Call, Leaves, Made, Plan, Read, Remove, Wipe, Write, gives}
 use Rattle.run_model.specs.Reading.{Reading, nothing_read, read_inputs, reading}
-use Rattle.run_model.specs.State.{Attempt, PlainCluster, Setup}
+use Rattle.run_model.specs.declared.attempt.Attempt.{Attempt}
+use Rattle.run_model.specs.State.{PlainCluster, Setup}
 use Rattle.run_model.specs.Tasks.{IsTask, last_outs}
 use Rattle.task_values.specs.Reads.{Answer, AreOfValues, computed, part_in, tested}
 use Rattle.task_values.specs.Tests.{test_of}
