@@ -1,5 +1,7 @@
+pub mod CacheTexts
 pub mod Coming
 pub mod Copies
 pub mod FirstFiles
 pub mod Following
 pub mod Steps
+pub mod Telling

@@ -6,6 +6,7 @@ mod fault;
 mod keeping;
 mod reading;
 mod rows;
+mod texts;
 mod tries;
 
 pub use desk::Desk;
@@ -13,3 +14,4 @@ pub use fault::WorkFault;
 pub use keeping::{fetch_copy, put_copy, strike_copy, wipe_node};
 pub use reading::{Found, read_all, read_need};
 pub use rows::{rows_of, schema_of};
+pub use texts::bytes_tell_the_value;
