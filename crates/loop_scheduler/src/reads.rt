@@ -1,6 +1,6 @@
 ghost use Rattle.std.specs.Prelude.{◌≡◌, [], ◌∷◌, ◌++◌, map, IfOk, OnOk};
 ghost use Rattle.hal_base.specs.Shapes.{IsWellFormed};
-ghost use Rattle.run_model.specs.Tasks.{last_outs, source_numbers, spills, split};
+ghost use Rattle.run_model.specs.Tasks.{last_outs, source_numbers, split};
 ghost use Rattle.loop_scheduler.specs.Reads.{files_of};
 ghost use Rattle.loop_scheduler.specs.steps.Reading.{parts_read, spill_round, spills_read};
 
