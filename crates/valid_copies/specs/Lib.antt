@@ -5,4 +5,5 @@ pub mod Readings
 pub mod Stands
 pub mod Telling
 pub mod Texts
+pub mod Writes
 pub mod steps

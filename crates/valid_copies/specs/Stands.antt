@@ -1,5 +1,5 @@
 -- Copies that are valid, and disks to which their texts were put.
-use Rattle.std.specs.Prelude.{◌≡◌, ℕ, List, Option, Some, IfSome}
+use Rattle.std.specs.Prelude.{◌≡◌, ℕ, false, List, Option, Some, IfSome}
 use Rattle.std.specs.List.{AllByRecursion}
 use Rattle.std.specs.Option.{option_map}
 use Rattle.node_names.specs.declared.name.Name.{Name}
@@ -8,6 +8,7 @@ use Rattle.hal_outside.specs.DiskTold.{DiskTold}
 use Rattle.node_files.specs.declared.files.Fetched.{Fetched}
 use Rattle.node_files.specs.declared.files.Fetched.TheVariants.{Bytes, Missed}
 use Rattle.replica_table.specs.Copies.{Copy}
+use Rattle.replica_table.specs.Sets.{among}
 use Rattle.valid_copies.specs.Readings.{HasText}
 use Rattle.valid_copies.specs.Texts.{text_of}
 use Rattle.name_values.specs.Values.{World}
@@ -35,3 +36,7 @@ IsText text Missed = Unit {0}
 -- the copy of these bytes
 abbrev pub copy_of_bytes : Name → ℕ → List ℕ → Copy
 copy_of_bytes name node bytes = record { name = name; node = node; kept = record { 0 = sha256 bytes } }
+
+-- on all nodes but these, files were put as before
+abbrev pub OthersStay : List ℕ → DiskTold → DiskTold → Type 0
+OthersStay nodes old new = (n : ℕ) (name : Name) → among n nodes ≡ false → file_at new.put n name ≡ file_at old.put n name

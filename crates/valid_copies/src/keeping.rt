@@ -1,4 +1,4 @@
-ghost use Rattle.std.specs.Prelude.{◌≡◌, ◌<◌, ◌≤◌, false, List, Option, Some, IfErr, IfOk, IfSome, IsSome, OnErr, OnOk};
+ghost use Rattle.std.specs.Prelude.{◌≡◌, ◌<◌, ◌≤◌, false, [], ◌∷◌, List, Option, Some, IfErr, IfOk, IfSome, IsSome, OnErr, OnOk};
 ghost use Rattle.hal_outside.specs.DiskCalls as call;
 ghost use Rattle.hal_outside.specs.DiskFiles.{file_at};
 ghost use Rattle.hal_outside.specs.DiskTold.{DiskTold, Done, Lacks, NotDone, NotRead};
@@ -9,7 +9,7 @@ ghost use Rattle.node_files.specs.KeptFiles.{HasDigest, IsFetched, IsFound, OnMi
 ghost use Rattle.replica_table.specs.Copies.{Copy, but_file, but_node, held, with_copy};
 ghost use Rattle.replica_table.specs.Sets.{among};
 ghost use Rattle.valid_copies.specs.Readings.{IsTextOf};
-ghost use Rattle.valid_copies.specs.Stands.{IsText, Stands, copy_of_bytes};
+ghost use Rattle.valid_copies.specs.Stands.{IsText, OthersStay, Stands, copy_of_bytes};
 ghost use Rattle.valid_copies.specs.Texts.{text_of};
 ghost use Rattle.name_values.specs.Values.{World, value_of};
 
@@ -36,6 +36,7 @@ pub fn put_copy<D: Disks>(
     ensures done { OnOk result (OnTold (Done (call.Write node name.now bytes.now)) (D.told disks.old) (D.told disks.new)) }
     ensures failed { OnErr result (OnTold (NotDone (call.Write node name.now bytes.now)) (D.told disks.old) (D.told disks.new)) }
     ensures valid { OnOk result ((w : World) (copies : List Copy) → IsTextOf w.shape name.now bytes.now (value_of w name.now) → Stands w copies (D.told disks.old) → Stands w (with_copy (copy_of_bytes name.now node bytes.now) copies) (D.told disks.new)) }
+    ensures others { OnTold (OthersStay (node ∷ [])) (D.told disks.old) (D.told disks.new) }
     ensures damage_shown { D.shows_damage disks.old → D.shows_damage disks.new }
     ensures soundness_kept { D.sound disks.old → D.sound disks.new }
 {
