@@ -3,6 +3,9 @@ pub mod Coming
 pub mod Copies
 pub mod FirstFiles
 pub mod Following
+pub mod FurtherNodes
 pub mod Others
+pub mod Steady
 pub mod Steps
 pub mod Telling
+pub mod Written

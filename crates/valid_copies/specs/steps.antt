@@ -1,2 +1,3 @@
 -- What the contracts of private steps say.
+pub mod Further
 pub mod Tries

@@ -16,4 +16,4 @@ pub use keeping::{fetch_copy, put_copy, strike_copy, wipe_node};
 pub use reading::{Found, read_all, read_need};
 pub use rows::{rows_of, schema_of};
 pub use texts::bytes_tell_the_value;
-pub use writing::write_copy;
+pub use writing::{write_copy, write_further};
