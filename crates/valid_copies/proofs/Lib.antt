@@ -5,6 +5,7 @@ pub mod FirstFiles
 pub mod Following
 pub mod FurtherNodes
 pub mod Others
+pub mod PlanWrites
 pub mod Steady
 pub mod Steps
 pub mod Telling
