@@ -16,9 +16,10 @@ use Rattle.valid_copies.specs.Readings.{StandsFor}
 use Rattle.valid_copies.specs.Texts.{text_of}
 use Rattle.node_files.specs.KeptFiles.{IsFetched}
 use Rattle.node_files.specs.declared.files.FileRef.{FileRef}
+use Rattle.node_files.specs.declared.files.Fetched.{Fetched}
 use Rattle.node_files.specs.declared.files.Fetched.TheVariants.{Bytes, Missed}
 use Rattle.valid_copies.specs.Stands.{Stands}
-use Rattle.valid_copies.specs.Calls.{Added}
+use Rattle.valid_copies.specs.Calls.{Added, PutStays}
 use Rattle.valid_copies.specs.declared.reading.Found.{Found}
 use Rattle.valid_copies.specs.declared.fault.WorkFault.{WorkFault}
 use Rattle.valid_copies.specs.declared.fault.WorkFault.TheVariants.{Device, Memory}
@@ -50,6 +51,34 @@ pub still_told : (before after : Option DiskTold) (calls : List disk.Call) → A
 still_told None after calls a s = cc
 still_told (Some t) None calls a s = cc
 still_told (Some t) (Some u) calls a s = s
+
+-- ---- what was put
+
+pub puts_none : (told : Option DiskTold) → PutStays told told
+puts_none None = refl
+puts_none (Some t) = refl
+
+pub puts_more : (before middle after : Option DiskTold) → PutStays before middle → PutStays middle after → PutStays before after
+puts_more None None after a b = b
+puts_more None (Some m) after a b = cc
+puts_more (Some t) None after a b = absurd a
+puts_more (Some t) (Some m) None a b = b
+puts_more (Some t) (Some m) (Some u) a b = b ∙ a
+
+fetched_puts : (file : FileRef) (found : Fetched) (t u : DiskTold) → IsFetched file found t u → u.put ≡ t.put
+fetched_puts file (Bytes b) t u r = r.put
+fetched_puts file Missed t u r = elim r [ inl a ↦ a.put | inr a ↦ a.put ]
+
+told_puts : (R : DiskTold → DiskTold → Type 0) (old new : Option DiskTold) → ((t u : DiskTold) → R t u → u.put ≡ t.put) → OnTold R old new → PutStays old new
+told_puts R None new f o = o
+told_puts R (Some t) None f o = o
+told_puts R (Some t) (Some u) f o = f t u o
+
+pub puts_fetched : (file : FileRef) (found : Fetched) (old new : Option DiskTold) → OnTold (IsFetched file found) old new → PutStays old new
+puts_fetched file found old new o = told_puts (IsFetched file found) old new (fetched_puts file found) o
+
+pub puts_failed : (file : FileRef) (missed : Type 0) (old new : Option DiskTold) → OnTold (NotRead file.node file.name file.digest.0 missed) old new → PutStays old new
+puts_failed file missed old new o = told_puts (NotRead file.node file.name file.digest.0 missed) old new (λ t u r. r.put) o
 
 pub done_added : (call : disk.Call) (before after : Option DiskTold) → OnTold (Done call) before after → Added before (call ∷ []) after
 done_added call None after o = ap (option_map calls_in) o

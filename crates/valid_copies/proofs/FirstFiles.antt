@@ -1,6 +1,6 @@
 -- The file that is tried first is the first of those that a plan tries.
 use Rattle.std.proofs.Common.{◌≡◌, ℕ, ◌<◌, Bool, true, false, ◌&&◌, ◌||◌, not, cond, List, [], ◌∷◌, ◌++◌, ◌==◌, Option, None, Some, refl, sym, ap, subst, ◌∙◌, map, is_some, slice_get}
-use Rattle.std.specs.Prelude.{option_map, IfSome, if◌then◌else◌}
+use Rattle.std.specs.Prelude.{option_map, IfNone, IfSome, if◌then◌else◌}
 use Rattle.std.specs.List.{filter, flat_map}
 use Rattle.std.specs.Option.{option_and_then}
 use Rattle.std.proofs.lemmas.Bool.{eq-eqb, eqb-true, false≢true}
@@ -14,7 +14,7 @@ use Rattle.run_model.proofs.Bare.{bare_up}
 use Rattle.run_model.specs.Reading.{Try, cache_of_block, own_tries, own_try, tries_for, try_at}
 use Rattle.run_model.specs.State.{bare, holds}
 use Rattle.run_model.specs.State.{Copy as Bare}
-use Rattle.valid_copies.specs.Files.{Desk, IsFirstTry, try_of}
+use Rattle.valid_copies.specs.Files.{Desk, IsFirstTry, IsUpFile, try_of}
 use Rattle.valid_copies.specs.Readings.{IsFile}
 use Rattle.valid_copies.specs.steps.Tries.{file_at, first_file, held_file, kept_file, or_else, up_file}
 
@@ -55,7 +55,7 @@ first_kept table own name = or_kept table (held_file table own name) (or_else (k
 
 -- ---- on the own node
 
-holds_held : (copies : List Copy) (node : ℕ) (name : Name) → holds (bare copies) node name ≡ is_some (held name node copies)
+pub holds_held : (copies : List Copy) (node : ℕ) (name : Name) → holds (bare copies) node name ≡ is_some (held name node copies)
 holds_held [] node name = refl
 holds_held (c ∷ copies) node name = elim (is_at name node c) as (λ v. (v || holds (bare copies) node name) ≡ is_some (cond v (Some c.kept) (held name node copies))) [
   | true ↦ refl
@@ -156,6 +156,53 @@ first_under end n (m ∷ ns) a e = subst (λ k. k < end) (same e) a.1
   where
     same : Some m ≡ Some n → m ≡ n
     same h = cc
+
+-- the file on the lowest up node with the name is there where one is
+module _ (table : Replicas) (name : Name) where
+  none_at : (ns : List ℕ) → holders name table ≡ ns → option_and_then (λ node. held_file table node name) (slice_get ns 0) ≡ None → ns ≡ []
+  none_at [] h e = refl
+  none_at (n ∷ ns) h e = absurd (with_held table.copies name n (none_of (held name n table.copies) e) (first_with (λ k. among k table.up) (nodes_with name table.copies) n (ap (λ ks. slice_get ks 0) h)))
+    where
+      none_of : (o : Option Digest) → option_map (file_at n name) o ≡ None → o ≡ None
+      none_of None f = refl
+      none_of (Some digest) f = cc
+
+  pub up_none : up_file table name ≡ None → holders name table ≡ []
+  up_none e = none_at (holders name table) refl e
+
+  pub none_up : (o : Option FileRef) → o ≡ up_file table name → IfNone o (holders name table ≡ [])
+  none_up None e = up_none (sym e)
+  none_up (Some file) e = tt
+
+  at_node : (o : Option ℕ) (p : Option FileRef) → slice_get (holders name table) 0 ≡ o → option_and_then (λ node. held_file table node name) o ≡ p → IfSome p (IsUpFile table name)
+  at_node None None h e = tt
+  at_node None (Some file) h e = absurd (none_some file e)
+    where
+      none_some : (file : FileRef) → None ≡ Some file → ⊥
+      none_some file f = cc
+  at_node (Some n) p h e = with_digest (held name n table.copies) p refl e
+    where
+      with_digest : (d : Option Digest) (p : Option FileRef) → held name n table.copies ≡ d → option_map (file_at n name) d ≡ p → IfSome p (IsUpFile table name)
+      with_digest d None k f = tt
+      with_digest None (Some file) k f = absurd (none_some file f)
+        where
+          none_some : (file : FileRef) → None ≡ Some file → ⊥
+          none_some file f = cc
+      with_digest (Some digest) (Some file) k f = subst (IsUpFile table name) (same file f) (record { named = refl; lowest = h; kept = k })
+        where
+          same : (file : FileRef) → Some (file_at n name digest) ≡ Some file → file_at n name digest ≡ file
+          same file f = cc
+
+  pub up_some : (p : Option FileRef) → p ≡ up_file table name → IfSome p (IsUpFile table name)
+  up_some p e = at_node (slice_get (holders name table) 0) p refl (sym e)
+
+-- a file of a node that there is
+pub held_there : (table : Replicas) (node : ℕ) (name : Name) (o : Option FileRef) → o ≡ held_file table node name → node < table.nodes → IfSome o (λ file. file.node < table.nodes)
+held_there table node name o e l = subst (λ p. IfSome p (λ (file : FileRef). file.node < table.nodes)) (sym e) (at (held name node table.copies))
+  where
+    at : (d : Option Digest) → IfSome (option_map (file_at node name) d) (λ (file : FileRef). file.node < table.nodes)
+    at None = tt
+    at (Some digest) = l
 
 first_mapped : (name : Name) (nodes : List ℕ) → slice_get (map (try_at name) nodes) 0 ≡ option_map (try_at name) (slice_get nodes 0)
 first_mapped name [] = refl

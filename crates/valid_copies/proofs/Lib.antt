@@ -1,11 +1,15 @@
 pub mod CacheTexts
+pub mod Clearing
 pub mod Coming
 pub mod Copies
 pub mod FirstFiles
 pub mod Following
 pub mod FurtherNodes
+pub mod InputPlans
+pub mod InputReads
 pub mod Others
 pub mod PlanWrites
+pub mod Removals
 pub mod Steady
 pub mod Steps
 pub mod Telling

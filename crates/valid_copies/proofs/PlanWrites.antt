@@ -44,7 +44,7 @@ writes_answered (it ∷ writes) = (refl, writes_answered writes)
 pub wrote_follows : {A : Type 0} (before after : Option DiskTold) (old new : Replicas) (writes : List FileWrite) (rest : Plan A) → Wrote before old writes new after → Follows (do_all (map planned writes) rest) before after rest
 wrote_follows before after old new writes rest w = record { calls = map write_of writes; answered = writes_answered writes; added = w.added; leads = leads_writes writes rest }
 
-do_both : {A : Type 0} (calls more : List plan.Call) (rest : Plan A) → do_all (calls ++ more) rest ≡ do_all calls (do_all more rest)
+pub do_both : {A : Type 0} (calls more : List plan.Call) (rest : Plan A) → do_all (calls ++ more) rest ≡ do_all calls (do_all more rest)
 do_both [] more rest = refl
 do_both (call ∷ calls) more rest = ap (plan.does call) (do_both calls more rest)
 

@@ -5,6 +5,7 @@ use Rattle.std.specs.Option.{option_map}
 use Rattle.hal_outside.specs.DiskCalls as disk
 use Rattle.hal_outside.specs.DiskCalls.{Answer, Same, Gone, Other}
 use Rattle.hal_outside.specs.DiskTold.{DiskTold}
+use Rattle.hal_outside.specs.Told.{OnTold}
 use Rattle.run_model.specs.Plans as plan
 use Rattle.run_model.specs.Plans.{Leaves, Made, Plan}
 
@@ -60,3 +61,7 @@ pub record MissedIn {A : Type 0} (plan : Plan A) (before after : Option DiskTold
   pub missed : (made_of last).missed ≡ true
   pub added : Added before (done ++ last ∷ []) after
   pub leads : Leads plan (done ++ last ∷ []) rest
+
+-- of no file it changed what was put
+abbrev pub PutStays : Option DiskTold → Option DiskTold → Type 0
+PutStays before after = OnTold (λ old new. new.put ≡ old.put) before after

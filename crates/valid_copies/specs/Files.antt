@@ -7,7 +7,7 @@ use Rattle.node_names.specs.declared.name.Name.{Name}
 use Rattle.hal_outside.specs.DiskCalls as disk
 use Rattle.hal_outside.specs.DiskTold.{DiskTold}
 use Rattle.node_files.specs.declared.files.FileRef.{FileRef}
-use Rattle.replica_table.specs.Copies.{Replicas, held}
+use Rattle.replica_table.specs.Copies.{Replicas, held, holders}
 use Rattle.run_model.specs.Reading.{Try, tries_for, try_at}
 use Rattle.run_model.specs.State.{PlainCluster, bare}
 use Rattle.name_values.specs.Values.{World}
@@ -47,6 +47,12 @@ try_of file = try_at file.name file.node
 -- the first file that is tried for a need, or none
 abbrev pub IsFirstTry : Desk → Name → Option Try → Type 0
 IsFirstTry desk name first = (c : PlainCluster) → Sees desk.table c → slice_get (tries_for c desk.own name) 0 ≡ first
+
+-- the file of a name on the lowest node that is up and holds it
+pub record IsUpFile (table : Replicas) (name : Name) (file : FileRef) : Type 0 where
+  pub named : file.name ≡ name
+  pub lowest : slice_get (holders name table) 0 ≡ Some file.node
+  pub kept : held name file.node table.copies ≡ Some file.digest
 
 -- a need was read: by the first file that is tried for it, of which the digest is kept
 pub record IsRead (desk : Desk) (name : Name) (it : FileRead) : Type 0 where

@@ -1,7 +1,12 @@
 pub mod Calls
 pub mod Faults
+pub mod FileLaws
+pub mod FileOrder
 pub mod Files
+pub mod Inputs
+pub mod ReadCounts
 pub mod Readings
+pub mod Removing
 pub mod Stands
 pub mod Telling
 pub mod Texts

@@ -3,6 +3,7 @@ use replica_table::Table;
 use std::marker::Model;
 
 /// Where an attempt reads: the shape, the copies, its own node, and the part of which it reads sections.
+#[derive(Drop)]
 pub struct Desk<'a> {
     pub shape: &'a Shape,
     pub table: &'a Table,

@@ -3,8 +3,11 @@
 
 mod desk;
 mod fault;
+mod file_order;
+mod inputs;
 mod keeping;
 mod reading;
+mod removing;
 mod rows;
 mod texts;
 mod tries;
@@ -12,8 +15,12 @@ mod writing;
 
 pub use desk::Desk;
 pub use fault::WorkFault;
+pub use file_order::sort_files;
+pub use inputs::{ReadCounts, count_reads, read_inputs};
 pub use keeping::{fetch_copy, put_copy, strike_copy, wipe_node};
 pub use reading::{Found, read_all, read_need};
+pub use removing::{FileOn, clear_files, remove_files};
 pub use rows::{rows_of, schema_of};
 pub use texts::bytes_tell_the_value;
+pub use tries::up_file;
 pub use writing::{write_copy, write_further};

@@ -4,6 +4,7 @@ ghost use Rattle.hal_outside.specs.Told.{Rose};
 ghost use Rattle.replica_table.specs.Copies.{Copy};
 ghost use Rattle.name_values.specs.Values.{World};
 ghost use Rattle.valid_copies.specs.Stands.{Stands};
+ghost use Rattle.valid_copies.specs.Calls.{PutStays};
 ghost use Rattle.valid_copies.specs.Faults.{AtDevice, AtMissed};
 ghost use Rattle.valid_copies.specs.Files.{FoundAt, ReadOrStarved, StoppedBy};
 ghost use Rattle.valid_copies.specs.Readings.{IsFile};
@@ -42,6 +43,7 @@ pub fn read_need<D: Disks>(
     ensures device { IfErr result (λ fault. AtDevice fault (Rose (D.faults disks.old) (D.faults disks.new))) }
     ensures missed { IfErr result (λ fault. AtMissed fault (Rose (D.misses disks.old) (D.misses disks.new))) }
     ensures valid { (w : World) (copies : List Copy) → Stands w copies (D.told disks.old) → Stands w copies (D.told disks.new) }
+    ensures puts_stay { PutStays (D.told disks.old) (D.told disks.new) }
     ensures damage_shown { D.shows_damage disks.old → D.shows_damage disks.new }
     ensures soundness_kept { D.sound disks.old → D.sound disks.new }
 {
@@ -79,6 +81,7 @@ pub fn read_all<D: Disks>(
     ensures device { IfErr result (λ fault. AtDevice fault (Rose (D.faults disks.old) (D.faults disks.new))) }
     ensures missed { IfErr result (λ fault. AtMissed fault (Rose (D.misses disks.old) (D.misses disks.new))) }
     ensures valid { (w : World) (copies : List Copy) → Stands w copies (D.told disks.old) → Stands w copies (D.told disks.new) }
+    ensures puts_stay { PutStays (D.told disks.old) (D.told disks.new) }
     ensures damage_shown { D.shows_damage disks.old → D.shows_damage disks.new }
     ensures soundness_kept { D.sound disks.old → D.sound disks.new }
 {

@@ -1,6 +1,6 @@
-ghost use Rattle.std.specs.Prelude.{◌<◌, ◌≡◌, IfSome, option_map};
-ghost use Rattle.replica_table.specs.Copies.{held};
-ghost use Rattle.valid_copies.specs.Files.{IsFirstTry, try_of};
+ghost use Rattle.std.specs.Prelude.{◌<◌, ◌≡◌, [], IfNone, IfSome, option_map};
+ghost use Rattle.replica_table.specs.Copies.{held, holders};
+ghost use Rattle.valid_copies.specs.Files.{IsFirstTry, IsUpFile, try_of};
 ghost use Rattle.valid_copies.specs.Readings.{IsFile};
 ghost use Rattle.valid_copies.specs.steps.Tries.{first_file, held_file, kept_file, up_file};
 
@@ -69,9 +69,12 @@ fn kept_file(table: &Table, node: u32, name: &Name) -> Option<FileRef>
     }
 }
 
-/// The file on the lowest node that is up and holds it.
-fn up_file(table: &Table, name: &Name) -> Option<FileRef>
-    ensures { result ≡ up_file table.now name.now }
+/// The file on the lowest node that is up and holds it. `None` exactly where no up node does.
+pub fn up_file(table: &Table, name: &Name) -> Option<FileRef>
+    ensures step { result ≡ up_file table.now name.now }
+    ensures none { IfNone result (holders name.now table.now ≡ []) }
+    ensures lowest { IfSome result (IsUpFile table.now name.now) }
+    ensures there { IfSome result (λ file. file.node < table.now.nodes) }
 {
     match table.where_is(name).nth(0) {
         Some(node) => held_file(table, node, name),

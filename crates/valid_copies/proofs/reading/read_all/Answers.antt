@@ -1,6 +1,7 @@
 use Rattle.std.proofs.Common.{sym, subst, arith}
 use Rattle.std.specs.List.{AllByRecursion}
 use Rattle.valid_copies.proofs.Coming.{SoFar, so_far_memory, so_far_more, so_far_none, so_far_stopped}
+use Rattle.valid_copies.proofs.Coming.{puts_more, puts_none}
 use Rattle.valid_copies.specs.Readings.{IsFile}
 use Rattle.valid_copies.proofs.reading.read_all.Goals as goal
 
@@ -9,6 +10,7 @@ names-init g c = record {
   so_far = subst (SoFar c.args.desk.now _ _ _ _ _ _ c.args.names.now c.args.names.now c.args.files.now.items c.args.files.now.items) (sym c.new-lists.ensures) (so_far_none c.args.desk.now _ _ _ c.args.names.now c.args.files.now.items);
   faults = omega arith;
   misses = omega arith;
+  puts = puts_none (g.D.Disks.told c.args.disks.now);
   all_files = c.requires.all_files;
 }
 
@@ -21,6 +23,7 @@ names-preserved g c =
           c.in-Some.ensures.cases.0 found c.in-Ok-Some.ensures.damage_shown c.in-Ok-Some.ensures.valid c.in-Ok-Some.ensures.soundness_kept c.in-Ok.ensures.files c.in-Ok.ensures.lists;
       faults = omega (arith, c.names.invariant.faults, c.in-Ok-Some.ensures.faults_stay);
       misses = omega (arith, c.names.invariant.misses, c.in-Ok-Some.ensures.misses_stay);
+      puts = puts_more (g.D.Disks.told c.args.disks.now) (g.D.Disks.told c.names.disks) _ c.names.invariant.puts c.in-Ok-Some.ensures.puts_stay;
       all_files = all.1;
     }
 
