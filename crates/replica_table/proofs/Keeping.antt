@@ -7,13 +7,16 @@ use Rattle.std.specs.Option.{option_map}
 use Rattle.std.specs.declared.alloc.Global.{Global}
 use Rattle.std.specs.declared.vec.Vec.{Vec}
 use Rattle.std.proofs.lemmas.Bool.{eqb-true, eqb-false, ltb-true, ltb-false}
+use Rattle.std.proofs.lemmas.List.{map-append}
 use Rattle.std.proofs.lemmas.List.Elements.{All-nil, All-cons}
 use Rattle.indexmap.specs.IndexMap.{insert_entry}
 use Rattle.node_names.specs.declared.name.Name.{Name}
 use Rattle.replica_table.specs.declared.copied.Copied.{Copied}
+use Rattle.replica_table.specs.declared.file_on.FileOn.{FileOn}
 use Rattle.replica_table.specs.Copies.{Copy, among_its_own, held, is_name, names_of, nodes_with, of_name, with_copy}
+use Rattle.replica_table.specs.Listing.{file_on, files_of, those}
 use Rattle.replica_table.specs.Sets.{Ascend, among}
-use Rattle.replica_table.specs.steps.Entries.{Entries, IsListed, behind, copies_in, copy_of, found, items_of, listed, nodes_in, placed}
+use Rattle.replica_table.specs.steps.Entries.{Entries, IsListed, behind, copies_in, copy_of, files_in, files_on, found, items_of, listed, nodes_in, placed}
 use Rattle.replica_table.proofs.Members.{ascend_from}
 use Rattle.replica_table.proofs.Names.{itself, same_by}
 
@@ -263,3 +266,35 @@ with_list nodes name new v es l h a = inserted nodes name v es (λ k. record {
   held = subst (λ items. 0 < length items) (sym h) (placed_some new (listed name es));
   ascending = subst (λ items. Ascend 0 nodes (nodes_in items)) (sym h) (placed_ascend 0 nodes new (listed name es) (omega arith) l (listed_ascend nodes name es a));
 }) a
+
+-- ---- the files of copies
+
+files_of_name : (name : Name) (test : Name → Bool) (nodes : List ℕ) (cs : List Copied) → files_of (those test nodes (map (copy_of name) cs)) ≡ cond (test name) (files_on name nodes cs) []
+files_of_name name test nodes cs = ap files_of (filter_map_is (λ copy. test copy.name && among copy.node nodes) (λ c. test name && among c.node nodes) name (λ c. refl) cs) ∙ by_test (test name)
+  where
+    mapped : (xs : List Copied) → files_of (map (copy_of name) xs) ≡ map (λ (c : Copied). file_on name c.node) xs
+    mapped [] = refl
+    mapped (x ∷ xs) = ap (λ fs. file_on name x.node ∷ fs) (mapped xs)
+
+    none : (xs : List Copied) → filter (λ c. false && among c.node nodes) xs ≡ []
+    none [] = refl
+    none (x ∷ xs) = none xs
+
+    by_test : (b : Bool) → files_of (map (copy_of name) (filter (λ c. b && among c.node nodes) cs)) ≡ cond b (files_on name nodes cs) []
+    by_test true = mapped (filter (λ c. among c.node nodes) cs)
+    by_test false = ap (λ xs. files_of (map (copy_of name) xs)) (none cs)
+
+pub files_in_are : (test : Name → Bool) (nodes : List ℕ) (es : Entries) → files_in test nodes es ≡ files_of (those test nodes (copies_in es))
+files_in_are test nodes [] = refl
+files_in_are test nodes (e ∷ es) =
+    let more : List FileOn = files_in test nodes es in
+    sym (
+    ap files_of (filter_append (λ copy. test copy.name && among copy.node nodes) (map (copy_of e.0) e.1.items) (copies_in es))
+    ∙ map-append (λ (copy : Copy). file_on copy.name copy.node) (those test nodes (map (copy_of e.0) e.1.items)) (those test nodes (copies_in es))
+    ∙ ap (λ fs. fs ++ files_of (those test nodes (copies_in es))) (files_of_name e.0 test nodes e.1.items)
+    ∙ ap (λ fs. cond (test e.0) (files_on e.0 nodes e.1.items) [] ++ fs) (sym (files_in_are test nodes es))
+    ∙ by_test (test e.0) (files_on e.0 nodes e.1.items) more)
+  where
+    by_test : (b : Bool) (own more : List FileOn) → cond b own [] ++ more ≡ cond b (own ++ more) more
+    by_test true own more = refl
+    by_test false own more = refl

@@ -1,9 +1,10 @@
-ghost use Rattle.std.specs.Prelude.{◌≡◌, ℕ, ◌<◌, ◌==◌, ◌&&◌, ◌∷◌, not, nat_lt, length, All, IfOk, IfSome, IfNone};
+ghost use Rattle.std.specs.Prelude.{◌≡◌, ℕ, ◌<◌, ◌==◌, ◌&&◌, ◌∷◌, ◌++◌, not, nat_lt, length, All, IfOk, IfSome, IfNone, OnOk};
 ghost use Rattle.std.specs.List.{filter};
 ghost use Rattle.replica_table.specs.Copies.{is_name};
 ghost use Rattle.replica_table.specs.Sets.{Ascend, among, members};
-ghost use Rattle.replica_table.specs.steps.Entries.{behind, found, nodes_in, placed};
+ghost use Rattle.replica_table.specs.steps.Entries.{behind, files_on, found, nodes_in, placed};
 
+use crate::file_on::FileOn;
 use crate::node_set::{NodeSet, with_bit};
 use hal_base::Memory;
 use node_names::{Digest, Name};
@@ -125,4 +126,24 @@ pub fn take_those(list: &mut Vec<Copied>, meant: bool, nodes: NodeSet) -> bool
         { !(meant && nodes.has(copied.node)) },
     );
     list.len() > 0
+}
+
+/// Adds the files of a name on some nodes, by its copies.
+pub fn push_files(
+    files: &mut Vec<FileOn>,
+    name: &Name,
+    copies: &[Copied],
+    nodes: NodeSet,
+) -> Result<(), Memory>
+    ensures { OnOk result (files.new.items ≡ files.old.items ++ files_on name.now (members nodes.0) copies.now) }
+{
+    'copies: for copied in copies {
+        if nodes.has(copied.node) {
+            files.push(FileOn {
+                name: *name,
+                node: copied.node,
+            })?;
+        }
+    }
+    Ok(())
 }

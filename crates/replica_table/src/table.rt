@@ -4,13 +4,16 @@ ghost use Rattle.std.specs.Option.{option_copied};
 ghost use Rattle.std.specs.Ordering.{nat_cmp};
 ghost use Rattle.hal_base.specs.Sorted.{joined};
 ghost use Rattle.replica_table.specs.Copies.{Replicas, but_file, but_node, but_those, copy_at, held, holders, is_name, names_of, with_copy};
+ghost use Rattle.replica_table.specs.Listing.{files_of, those};
 ghost use Rattle.replica_table.specs.Order.{AreInOrder};
 ghost use Rattle.replica_table.specs.Sets.{Ascend, among, but_one, members};
-ghost use Rattle.replica_table.specs.steps.Entries.{listed};
+ghost use Rattle.replica_table.specs.steps.Entries.{files_in, listed};
 
 use crate::copied::{
-    Copied, digest_on, nodes_of, same_names, take_node, take_of, take_those, with_copied,
+    Copied, digest_on, nodes_of, push_files, same_names, take_node, take_of, take_those,
+    with_copied,
 };
+use crate::file_on::FileOn;
 use crate::name_test::NameTest;
 use crate::node_set::NodeSet;
 use hal_base::Memory;
@@ -97,6 +100,19 @@ impl Table {
         );
     }
 
+    /// The files on the nodes of a set whose names pass the test, in the order of the copies.
+    pub fn list_those<T: NameTest>(
+        &self,
+        alloc: Global,
+        nodes: NodeSet,
+        test: &T,
+    ) -> Result<Vec<FileOn>, Memory>
+        ensures listed { IfOk result (λ files. files.items ≡ files_of (those (T.test test.now) (members nodes.0) self.now.copies)) }
+        ensures order { AreInOrder self.now.nodes self.now.copies }
+    {
+        files_of_those(alloc, &self.copies, nodes, test)
+    }
+
     /// The node goes down, with its files.
     pub fn lose(&mut self, node: u32)
         requires there { node < self.old.nodes }
@@ -178,4 +194,22 @@ fn copies_of<'a>(copies: &'a IndexMap<Name, Vec<Copied>>, name: &Name) -> &'a [C
         Some(list) => list.as_slice(),
         None => &[],
     }
+}
+
+/// The files on some nodes whose names pass a test.
+fn files_of_those<T: NameTest>(
+    alloc: Global,
+    copies: &IndexMap<Name, Vec<Copied>>,
+    nodes: NodeSet,
+    test: &T,
+) -> Result<Vec<FileOn>, Memory>
+    ensures { IfOk result (λ files. files.items ≡ files_in (T.test test.now) (members nodes.0) copies.now.entries) }
+{
+    let mut files = Vec::new(alloc);
+    'names: for (name, list) in copies.iter() {
+        if test.passes(name) {
+            push_files(&mut files, name, list, nodes)?;
+        }
+    }
+    Ok(files)
 }

@@ -28,7 +28,7 @@ use Rattle.valid_copies.specs.Calls.{Added, AreAnswered, Begun, Follows, Leads}
 use Rattle.valid_copies.specs.Readings.{HasText}
 use Rattle.valid_copies.specs.Removing.{IsNextRemoval, OfClearing, OthersKept, RemovedSome, as_copies, goes, is_on, left_over, removal_of}
 use Rattle.valid_copies.specs.Stands.{IsValid, OthersStay, Stands, WasPut}
-use Rattle.valid_copies.specs.declared.removing.FileOn.{FileOn}
+use Rattle.replica_table.specs.declared.file_on.FileOn.{FileOn}
 
 -- ---- the files that are listed
 

@@ -21,7 +21,7 @@ use Rattle.valid_copies.proofs.Coming.{added_more, done_added, not_done_added, n
 use Rattle.valid_copies.proofs.Others.{on_told}
 use Rattle.valid_copies.specs.Calls.{Added}
 use Rattle.valid_copies.specs.Removing.{OthersKept, RemovedSome, is_on, removal_of}
-use Rattle.valid_copies.specs.declared.removing.FileOn.{FileOn}
+use Rattle.replica_table.specs.declared.file_on.FileOn.{FileOn}
 
 -- ---- one file
 

@@ -1,7 +1,5 @@
 pub mod Calls
 pub mod Faults
-pub mod FileLaws
-pub mod FileOrder
 pub mod Files
 pub mod Inputs
 pub mod ReadCounts

@@ -14,7 +14,7 @@ use Rattle.run_model.specs.State.{PlainCluster, Setup, bare, copy, with_copies}
 use Rattle.run_model.specs.State.{Copy as Bare}
 use Rattle.run_model.specs.Stays.{stays}
 use Rattle.valid_copies.specs.Calls.{Added}
-use Rattle.valid_copies.specs.declared.removing.FileOn.{FileOn}
+use Rattle.replica_table.specs.declared.file_on.FileOn.{FileOn}
 
 -- the call that removes a file
 abbrev pub removal_of : FileOn → disk.Call

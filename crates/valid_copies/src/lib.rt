@@ -3,7 +3,6 @@
 
 mod desk;
 mod fault;
-mod file_order;
 mod inputs;
 mod keeping;
 mod reading;
@@ -15,11 +14,10 @@ mod writing;
 
 pub use desk::Desk;
 pub use fault::WorkFault;
-pub use file_order::sort_files;
 pub use inputs::{ReadCounts, count_reads, read_inputs};
 pub use keeping::{fetch_copy, put_copy, strike_copy, wipe_node};
 pub use reading::{Found, read_all, read_need};
-pub use removing::{FileOn, clear_files, remove_files};
+pub use removing::{clear_nodes, remove_files};
 pub use rows::{rows_of, schema_of};
 pub use texts::bytes_tell_the_value;
 pub use tries::up_file;

@@ -1,4 +1,4 @@
-ghost use Rattle.std.specs.Prelude.{◌≡◌, ◌≤◌, not, map, IfErr, IsSome, OnErr, OnOk};
+ghost use Rattle.std.specs.Prelude.{◌≡◌, ◌≤◌, ◌-◌, not, map, IfErr, IfOk, IsSome, OnErr, OnOk};
 ghost use Rattle.hal_base.specs.Shapes.{source_at};
 ghost use Rattle.name_values.specs.Values.{World};
 ghost use Rattle.replica_table.specs.Copies.{but_those};
@@ -14,19 +14,12 @@ ghost use Rattle.valid_copies.specs.Stands.{OthersStay, Stands};
 ghost use Rattle.valid_copies.specs.steps.Leaving.{stays_by};
 
 use crate::fault::WorkFault;
-use hal_base::Shape;
+use hal_base::{Memory, Shape};
 use hal_outside::{DiskFault, Disks};
 use node_names::Name;
-use replica_table::{NameTest, NodeSet, Table};
+use replica_table::{FileOn, NameTest, NodeSet, Table, sort_files};
 use run_model::source_of;
 use std::alloc::Global;
-
-/// The file of a name on a node.
-#[derive(Clone, Copy)]
-pub struct FileOn {
-    pub name: Name,
-    pub node: u32,
-}
 
 /// Removes files from their nodes, in order. After a fault some of them are gone, and of the next nothing is known.
 /// docs/CLUSTER.md, "What stays".
@@ -60,7 +53,7 @@ pub fn remove_files<D: Disks>(
 /// Removes the files on some nodes that do not stay in a round, by name and then by node, and strikes their copies: they
 /// are listed in this order. The other copies stay valid. After a fault the table is as before.
 /// docs/CLUSTER.md, "What stays".
-pub fn clear_files<D: Disks>(
+fn clear_files<D: Disks>(
     alloc: Global,
     disks: &mut D,
     table: &mut Table,
@@ -87,18 +80,83 @@ pub fn clear_files<D: Disks>(
     ensures damage_shown { D.shows_damage disks.old → D.shows_damage disks.new }
     ensures soundness_kept { D.sound disks.old → D.sound disks.new }
 {
-    let leaving = Leaving {
-        shape,
-        round,
-        before: round - 1,
-        kept: kept_round(keep, round),
-    };
+    let leaving = names_that_go(shape, keep, round);
     match remove_files(alloc, disks, files) {
         Ok(()) => {
             table.strike_those(nodes, &leaving);
             Ok(())
         }
         Err(fault) => Err(fault),
+    }
+}
+
+/// Removes the files on some nodes that do not stay in a round, by name and then by node, and strikes their copies. The
+/// other copies stay valid. After a fault the table is as before. docs/CLUSTER.md, "What stays".
+pub fn clear_nodes<D: Disks>(
+    alloc: Global,
+    disks: &mut D,
+    table: &mut Table,
+    shape: &Shape,
+    keep: u32,
+    round: u32,
+    nodes: NodeSet,
+) -> Result<(), WorkFault>
+    requires begun { 1 ≤ round }
+    requires some { 1 ≤ keep }
+    ensures cleared { OnOk result (table.new ≡ record table.old { copies = but_those (goes shape.now keep round) (members nodes.0) table.old.copies }) }
+    ensures followed { OnOk result (OfClearing (λ plan rest. Follows plan (D.told disks.old) (D.told disks.new) rest) shape.now keep round (members nodes.0) table.old.copies table.new.copies) }
+    ensures stopped { OnErr result (OfClearing (λ plan rest. Begun plan (D.told disks.old) (D.told disks.new)) shape.now keep round (members nodes.0) table.old.copies table.new.copies) }
+    ensures table_kept { OnErr result (table.new ≡ table.old) }
+    ensures valid { OnOk result ((w : World) → Stands w table.old.copies (D.told disks.old) → Stands w table.new.copies (D.told disks.new)) }
+    ensures others { OnTold (OthersStay (members nodes.0)) (D.told disks.old) (D.told disks.new) }
+    ensures faults_stay { D.faults disks.old ≤ D.faults disks.new }
+    ensures misses_stay { D.misses disks.old ≤ D.misses disks.new }
+    ensures device { IfErr result (λ fault. AtDevice fault (Rose (D.faults disks.old) (D.faults disks.new))) }
+    ensures not_missed { IsSome (D.told disks.old) → D.misses disks.new ≡ D.misses disks.old }
+    ensures missed { IfErr result (λ fault. AtMissed fault ⊥) }
+    ensures damage_shown { D.shows_damage disks.old → D.shows_damage disks.new }
+    ensures soundness_kept { D.sound disks.old → D.sound disks.new }
+{
+    match files_that_go(alloc, table, shape, keep, round, nodes) {
+        Ok(files) => clear_files(alloc, disks, table, shape, keep, round, nodes, &files),
+        Err(Memory) => Err(WorkFault::Memory),
+    }
+}
+
+/// The files on some nodes that do not stay in a round, by name and then by node.
+fn files_that_go(
+    alloc: Global,
+    table: &Table,
+    shape: &Shape,
+    keep: u32,
+    round: u32,
+    nodes: NodeSet,
+) -> Result<Vec<FileOn>, Memory>
+    requires begun { 1 ≤ round }
+    requires some { 1 ≤ keep }
+    ensures { IfOk result (λ files. as_copies files.items ≡ ordered (left_over shape.now keep round (members nodes.0) table.now.copies)) }
+{
+    let leaving = names_that_go(shape, keep, round);
+    match table.list_those(alloc, nodes, &leaving) {
+        Ok(files) => Ok(sort_files(files)),
+        Err(Memory) => Err(Memory),
+    }
+}
+
+/// The test of the names that do not stay in a round.
+fn names_that_go<'a>(shape: &'a Shape, keep: u32, round: u32) -> Leaving<'a>
+    requires begun { 1 ≤ round }
+    requires some { 1 ≤ keep }
+    ensures shape { result.shape.now ≡ shape.now }
+    ensures round { result.round ≡ round }
+    ensures before { result.before ≡ round - 1 }
+    ensures kept { result.kept ≡ kept_round keep round }
+{
+    Leaving {
+        shape,
+        round,
+        before: round - 1,
+        kept: kept_round(keep, round),
     }
 }
 

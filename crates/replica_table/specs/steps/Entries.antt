@@ -1,14 +1,16 @@
 -- The copies as the table keeps them: a list for each name.
-use Rattle.std.specs.Prelude.{ℕ, ◌<◌, ◌≤◌, ◌==◌, nat_lt, if◌then◌else◌, List, [], ◌∷◌, length, map, Option, None, Some}
-use Rattle.std.specs.List.{flat_map, AllByRecursion, IsDistinct}
+use Rattle.std.specs.Prelude.{ℕ, ◌<◌, ◌≤◌, ◌==◌, nat_lt, if◌then◌else◌, Bool, List, [], ◌∷◌, ◌++◌, length, map, Option, None, Some}
+use Rattle.std.specs.List.{filter, flat_map, AllByRecursion, IsDistinct}
 use Rattle.std.specs.Map.{keys_of, lookup}
 use Rattle.std.specs.declared.alloc.Global.{Global}
 use Rattle.std.specs.declared.vec.Vec.{Vec}
 use Rattle.node_names.specs.declared.digest.Digest.{Digest}
 use Rattle.node_names.specs.declared.name.Name.{Name}
 use Rattle.replica_table.specs.Copies.{Copy, copy_at, is_name}
-use Rattle.replica_table.specs.Sets.{Ascend, members}
+use Rattle.replica_table.specs.Listing.{file_on}
+use Rattle.replica_table.specs.Sets.{Ascend, among, members}
 use Rattle.replica_table.specs.declared.copied.Copied.{Copied}
+use Rattle.replica_table.specs.declared.file_on.FileOn.{FileOn}
 
 -- ---- the copies of one name
 
@@ -60,3 +62,14 @@ pub record IsKept (nodes set : ℕ) (entries : Entries) : Type 0 where
   pub up : Ascend 0 nodes (members set)
   pub each : AllByRecursion (IsListed nodes) entries
   pub once : IsDistinct is_name (keys_of entries)
+
+-- ---- the files of copies
+
+-- the files of a name on some nodes
+abbrev pub files_on : Name → List ℕ → List Copied → List FileOn
+files_on name nodes copies = map (λ (copied : Copied). file_on name copied.node) (filter (λ copied. among copied.node nodes) copies)
+
+-- the files on some nodes of the names that pass a test
+abbrev pub files_in : (Name → Bool) → List ℕ → Entries → List FileOn
+files_in test nodes [] = []
+files_in test nodes (e ∷ entries) = if test e.0 then files_on e.0 nodes e.1.items ++ files_in test nodes entries else files_in test nodes entries

@@ -4,10 +4,10 @@ use Rattle.valid_copies.proofs.Clearing.{cleared_begun, cleared_follows, cleared
 use Rattle.valid_copies.proofs.removing.clear_files.Goals as goal
 
 pub returns-in-Ok-clause-followed : goal.returns-in-Ok-clause-followed
-returns-in-Ok-clause-followed g c = rw (c.strike_those.ensures, c.kept_round.ensures) (cleared_follows c.args.shape.now c.args.keep c.args.round (members c.args.nodes.0) c.args.table.now.copies c.args.files.now c.requires.listed _ _ c.in-Ok.ensures.removed)
+returns-in-Ok-clause-followed g c = rw (c.strike_those.ensures, c.names_that_go-leaving.ensures.shape, c.names_that_go-leaving.ensures.round, c.names_that_go-leaving.ensures.before, c.names_that_go-leaving.ensures.kept) (cleared_follows c.args.shape.now c.args.keep c.args.round (members c.args.nodes.0) c.args.table.now.copies c.args.files.now c.requires.listed _ _ c.in-Ok.ensures.removed)
 
 pub returns-in-Ok-clause-valid : goal.returns-in-Ok-clause-valid
-returns-in-Ok-clause-valid g c = λ w s. rw (c.strike_those.ensures, c.kept_round.ensures) (cleared_stands c.args.shape.now c.args.keep c.args.round (members c.args.nodes.0) c.args.table.now.copies c.args.files.now c.requires.listed _ _ w c.in-Ok.ensures.others s)
+returns-in-Ok-clause-valid g c = λ w s. rw (c.strike_those.ensures, c.names_that_go-leaving.ensures.shape, c.names_that_go-leaving.ensures.round, c.names_that_go-leaving.ensures.before, c.names_that_go-leaving.ensures.kept) (cleared_stands c.args.shape.now c.args.keep c.args.round (members c.args.nodes.0) c.args.table.now.copies c.args.files.now c.requires.listed _ _ w c.in-Ok.ensures.others s)
 
 pub returns-in-Ok-clause-others : goal.returns-in-Ok-clause-others
 returns-in-Ok-clause-others g c = cleared_others c.args.shape.now c.args.keep c.args.round (members c.args.nodes.0) c.args.table.now.copies c.args.files.now c.requires.listed _ _ c.in-Ok.ensures.others

@@ -2,10 +2,10 @@ ghost use Rattle.std.specs.Prelude.{◌≡◌, refl};
 ghost use Rattle.std.specs.Ordering.{as_partial_cmp, eq_by_cmp};
 ghost use Rattle.std.specs.Cmp.{eq_by_cmp_equiv, partial_equiv_from_equiv, partial_order_from_agreeing_total};
 ghost use Rattle.hal_base.specs.Sorted.{sorted};
-ghost use Rattle.valid_copies.specs.FileLaws.{file_cmp_total};
-ghost use Rattle.valid_copies.specs.FileOrder.{file_cmp, place};
+ghost use Rattle.replica_table.specs.FileLaws.{file_cmp_total};
+ghost use Rattle.replica_table.specs.FileOrder.{file_cmp, place};
 
-use crate::removing::FileOn;
+use crate::file_on::FileOn;
 use node_names::Name;
 use std::cmp::Ordering;
 

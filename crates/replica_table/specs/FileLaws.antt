@@ -6,8 +6,8 @@ use Rattle.std.proofs.lemmas.Map.Lookups.{CmpEqualImpliesEq, exact_bytes}
 use Rattle.std.proofs.Common.{ap, ◌∙◌}
 use Rattle.node_names.specs.declared.name.Name.{Name}
 use Rattle.node_names.specs.declared.name.Name.TheVariants.{Blk, Spill, Out, Ric, Mic, Roc}
-use Rattle.valid_copies.specs.FileOrder.{file_cmp, place, place_of}
-use Rattle.valid_copies.specs.declared.removing.FileOn.{FileOn}
+use Rattle.replica_table.specs.FileOrder.{file_cmp, place, place_of}
+use Rattle.replica_table.specs.Listing.{file_on}
 
 pub file_cmp_total : IsTotalOrder file_cmp
 file_cmp_total = on_total place nat_list_cmp_total
@@ -20,9 +20,6 @@ same_place (Ric _ _ _) (Ric _ _ _) m n e = (cc, cc)
 same_place (Mic _ _) (Mic _ _) m n e = (cc, cc)
 same_place (Roc _ _) (Roc _ _) m n e = (cc, cc)
 same_place a b m n e = cc
-
-abbrev file_on : Name → ℕ → FileOn
-file_on name node = record { name = name; node = node }
 
 pub file_cmp_exact : CmpEqualImpliesEq file_cmp
 file_cmp_exact a b e =

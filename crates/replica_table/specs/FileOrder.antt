@@ -5,7 +5,7 @@ use Rattle.std.specs.declared.cmp.Ordering.{Ordering}
 use Rattle.std.specs.Cmp.Lexicographic.{slice_cmp}
 use Rattle.node_names.specs.declared.name.Name.{Name}
 use Rattle.node_names.specs.declared.name.Name.TheVariants.{Blk, Spill, Out, Ric, Mic, Roc}
-use Rattle.valid_copies.specs.declared.removing.FileOn.{FileOn}
+use Rattle.replica_table.specs.declared.file_on.FileOn.{FileOn}
 
 -- the numbers by which files are compared
 abbrev pub place_of : Name → ℕ → List ℕ
