@@ -1,0 +1,31 @@
+use Rattle.std.proofs.Common.{◌≡◌, IfSome, subst}
+use Rattle.run_model.specs.Plans.{gives}
+use Rattle.run_model.specs.Turns.{turn}
+use Rattle.valid_copies.specs.Calls.{Follows}
+use Rattle.cluster_core.specs.Clusters.{finished_in}
+use Rattle.cluster_core.specs.Turns.{decision_in, turned_to}
+use Rattle.cluster_core.specs.declared.cluster.Turned.{Turned}
+use Rattle.cluster_core.proofs.ManyTurns.{left_on, less_left, one_more, open_runs, ran_to_end, ran_to_fault}
+use Rattle.cluster_core.proofs.cluster.Cluster.all_turns.Goals as goal
+
+pub turns-smaller : goal.turns-smaller
+turns-smaller g c = less_left g.D.Disks (g.F.Functions.meaning c.args.functions.now) c.args.self.now c.turns.self c.next_turn.new.self c.args.disks.now c.turns.disks c.next_turn.new.disks c.turns.invariant c.in-Ok-Acted.field-0 c.in-Ok-Acted.field-0-is c.in-Ok-Acted.ensures.turned c.in-Ok-Acted.ensures.same
+
+pub turns-preserved : goal.turns-preserved
+turns-preserved g c = one_more g.D.Disks (g.F.Functions.meaning c.args.functions.now) c.args.self.now c.turns.self c.next_turn.new.self c.args.disks.now c.turns.disks c.next_turn.new.disks c.turns.invariant c.in-Ok-Acted.field-0 c.in-Ok-Acted.field-0-is c.in-Ok-Acted.ensures.turned c.in-Ok-Acted.ensures.same c.in-Ok-Acted.ensures.answers c.in-Ok-Acted.ensures.disks c.in-Ok-Acted.ensures.right
+
+pub returns-in-Ok-Finished-clause-finished : goal.returns-in-Ok-Finished-clause-finished
+returns-in-Ok-Finished-clause-finished g c =
+    ran_to_end c.args.self.now.state c.turns.self.state c.next_turn.new.self.state (g.D.Disks.told c.args.disks.now) (g.D.Disks.told c.turns.disks) (g.D.Disks.told c.next_turn.new.disks) (open_runs c.args.self.now c.requires.open c.requires.running) c.turns.invariant.ran c.in-Ok-Finished.finished
+    (subst (λ (t : Turned). Follows (turn c.turns.self.state.setup (decision_in c.turns.self.state) c.turns.self.state.plain) (g.D.Disks.told c.turns.disks) (g.D.Disks.told c.next_turn.new.disks) (gives (turned_to (finished_in t) c.next_turn.new.self.state.plain))) c.in-Ok-Finished.field-0-is c.in-Ok-Finished.ensures.turned)
+    (subst (λ (t : Turned). IfSome (finished_in t) (λ it. it.rounds ≡ c.next_turn.new.self.state.plain.round)) c.in-Ok-Finished.field-0-is c.in-Ok-Finished.ensures.rounds)
+
+pub returns-in-Ok-Finished-clause-disks : goal.returns-in-Ok-Finished-clause-disks
+returns-in-Ok-Finished-clause-disks g c = left_on g.D.Disks (g.F.Functions.meaning c.args.functions.now) c.args.self.now c.turns.self c.args.disks.now c.turns.disks c.next_turn.new.disks c.turns.invariant c.in-Ok-Finished.ensures.disks
+
+pub returns-in-Err-clause-refused : goal.returns-in-Err-clause-refused
+returns-in-Err-clause-refused g c =
+    ran_to_fault c.args.self.now.state c.turns.self.state c.next_turn.new.self.state (g.D.Disks.told c.args.disks.now) (g.D.Disks.told c.turns.disks) (g.D.Disks.told c.next_turn.new.disks) (open_runs c.args.self.now c.requires.open c.requires.running) c.turns.invariant.ran c.in-Err.fault c.in-Err.ensures.refused
+
+pub returns-in-Err-clause-disks : goal.returns-in-Err-clause-disks
+returns-in-Err-clause-disks g c = left_on g.D.Disks (g.F.Functions.meaning c.args.functions.now) c.args.self.now c.turns.self c.args.disks.now c.turns.disks c.next_turn.new.disks c.turns.invariant c.in-Err.ensures.disks

@@ -1,0 +1,13 @@
+use Rattle.std.proofs.Common.{◌≤◌}
+use Rattle.valid_copies.specs.Calls.{PutStays}
+use Rattle.cluster_core.proofs.PartLoops.{PartsSoFar}
+use Rattle.cluster_core.proofs.parts.read_parts.Given as goal
+
+abbrev pub invariant-parts : goal.invariant-parts
+invariant-parts g l = record {
+  so_far : PartsSoFar l.fn.shape l.fn.table l.fn.round (g.D.Disks.shows_damage l.initial.disks) (g.D.Disks.shows_damage l.disks) (g.D.Disks.told l.initial.disks) (g.D.Disks.told l.disks) l.part l.parts;
+  faults : g.D.Disks.faults l.initial.disks ≤ g.D.Disks.faults l.disks;
+  misses : g.D.Disks.misses l.initial.disks ≤ g.D.Disks.misses l.disks;
+  puts : PutStays (g.D.Disks.told l.initial.disks) (g.D.Disks.told l.disks);
+  soundness : g.D.Disks.sound l.initial.disks → g.D.Disks.sound l.disks;
+}

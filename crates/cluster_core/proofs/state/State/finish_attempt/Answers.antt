@@ -1,0 +1,45 @@
+use Rattle.std.proofs.Common.{sym, subst}
+use Rattle.cluster_core.specs.Finishing.{desk_of}
+use Rattle.cluster_core.specs.Outputs.{CanCompute}
+use Rattle.cluster_core.proofs.Computing.{can_compute}
+use Rattle.cluster_core.proofs.Done.{read_and_begun, read_and_committed, reads_stopped, starved_begun, starved_done}
+use Rattle.std.proofs.lemmas.Result.{on_ok_weaker}
+use Rattle.cluster_core.proofs.ReadRight.{read_right}
+use Rattle.cluster_core.proofs.Left.{leaves_more}
+use Rattle.cluster_core.proofs.state.State.finish_attempt.Goals as goal
+
+pub complete-requires-clause-inputs : goal.complete-requires-clause-inputs
+complete-requires-clause-inputs g c =
+    let read = rw c.in-Ok-Some.field-0-is at c.in-Ok-Some.ensures.read in
+    subst (CanCompute c.args.self.now.setup.shape c.args.attempt.now.task) (sym read.rows) (can_compute (g.F.Functions.meaning c.args.functions.now) (desk_of c.args.self.now c.args.attempt.now) c.read_needs.ensures.shape c.requires.fits c.args.attempt.now.task c.requires.can.task read.reads read.each)
+
+pub returns-in-Ok-Some-clause-done : goal.returns-in-Ok-Some-clause-done
+returns-in-Ok-Some-clause-done g c =
+    let read = rw c.in-Ok-Some.field-0-is at c.in-Ok-Some.ensures.read in
+    read_and_committed c.args.self.now c.args.attempt.now _ _ _ _ c.in-Ok-Some.read.counts c.in-Ok-Some.read.lists.items c.complete.new.self.plain c.complete.result read c.complete.ensures.committed
+
+pub returns-in-Ok-Some-clause-stopped : goal.returns-in-Ok-Some-clause-stopped
+returns-in-Ok-Some-clause-stopped g c =
+    let read = rw c.in-Ok-Some.field-0-is at c.in-Ok-Some.ensures.read in
+    read_and_begun c.args.self.now c.args.attempt.now _ _ _ _ c.in-Ok-Some.read.counts c.in-Ok-Some.read.lists.items c.complete.result read c.complete.ensures.begun c.complete.ensures.missed
+
+pub returns-in-Ok-Some-clause-disks : goal.returns-in-Ok-Some-clause-disks
+returns-in-Ok-Some-clause-disks g c = leaves_more g.D.Disks c.args.self.now.setup.schedule.nodes c.args.disks.now c.read_needs.new.disks c.complete.new.disks c.read_needs.ensures.disks c.complete.ensures.disks
+
+pub returns-in-Ok-clause-done : goal.returns-in-Ok-clause-done
+returns-in-Ok-clause-done g c =
+    let read = rw c.in-Ok-None.field-0-is at c.in-Ok-None.ensures.read in
+    starved_done c.args.self.now c.args.attempt.now _ _ c.starve.new.self.plain read c.in-Ok.ensures.noted
+
+pub returns-in-Err-starve-clause-stopped : goal.returns-in-Err-starve-clause-stopped
+returns-in-Err-starve-clause-stopped g c =
+    let read = rw c.in-Ok-None.field-0-is at c.in-Ok-None.ensures.read in
+    starved_begun c.args.self.now c.args.attempt.now _ _ read
+
+pub returns-in-Err-clause-stopped : goal.returns-in-Err-clause-stopped
+returns-in-Err-clause-stopped g c = reads_stopped c.args.self.now c.args.attempt.now _ _ c.in-Err.fault c.in-Err.ensures.stopped
+
+pub returns-in-Ok-Some-clause-right : goal.returns-in-Ok-Some-clause-right
+returns-in-Ok-Some-clause-right g c =
+    let read = rw c.in-Ok-Some.field-0-is at c.in-Ok-Some.ensures.read in
+    on_ok_weaker c.complete.result (λ right. read_right (g.F.Functions.meaning c.args.functions.now) c.args.self.now c.args.attempt.now (g.D.Disks.shows_damage c.args.disks.now) (g.D.Disks.told c.args.disks.now) (g.D.Disks.told c.read_needs.new.disks) (g.D.Disks.told c.complete.new.disks) c.in-Ok-Some.read.counts c.in-Ok-Some.read.lists.items c.complete.new.self.kept c.requires.can c.requires.now read c.read_needs.ensures.valid right) c.complete.ensures.right

@@ -1,0 +1,15 @@
+pub mod Clusters
+pub mod Deciding
+pub mod Disks
+pub mod Faults
+pub mod Filling
+pub mod Finishing
+pub mod Loading
+pub mod Outputs
+pub mod Parts
+pub mod RoundChange
+pub mod Running
+pub mod Starting
+pub mod States
+pub mod Turns
+pub mod Works
