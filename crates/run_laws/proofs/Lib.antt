@@ -26,6 +26,7 @@ pub mod RoundWanted
 pub mod Standstill
 pub mod Starting
 pub mod Tallying
+pub mod ToldByJournals
 pub mod Turning
 pub mod Undecided
 pub mod UnmissedReads

@@ -5,6 +5,7 @@ pub mod Refusals
 pub mod Rounds
 pub mod Standing
 pub mod States
+pub mod Telling
 pub mod Turns
 pub mod Wanting
 pub mod WithoutLoss

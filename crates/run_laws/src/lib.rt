@@ -7,6 +7,7 @@ mod refusals;
 mod rounds;
 mod standing;
 mod states;
+mod telling;
 mod turns;
 mod wanting;
 mod without_loss;
@@ -17,6 +18,7 @@ pub use refusals::{turn_tallies, turns_have_causes};
 pub use rounds::{names_are_of_the_shape, tasks_are_of_the_shape};
 pub use standing::{act_refuses, no_standstill, none_ready};
 pub use states::{load_reaches, turn_reaches};
+pub use telling::{ends_are_told, failures_are_told};
 pub use turns::{
     decides_where_decided, load_then_turns, one_turn_more, same_outcome, turns_by_calls,
 };
