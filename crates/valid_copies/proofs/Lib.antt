@@ -10,6 +10,7 @@ pub mod InputReads
 pub mod Others
 pub mod PlanWrites
 pub mod Removals
+pub mod Rightly
 pub mod SortedFiles
 pub mod Steady
 pub mod Steps

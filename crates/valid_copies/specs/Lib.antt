@@ -5,6 +5,7 @@ pub mod Inputs
 pub mod ReadCounts
 pub mod Readings
 pub mod Removing
+pub mod RightCalls
 pub mod Stands
 pub mod Telling
 pub mod Texts

@@ -9,6 +9,7 @@ ghost use Rattle.node_files.specs.KeptFiles.{HasDigest, IsFetched, IsFound, OnMi
 ghost use Rattle.replica_table.specs.Copies.{Copy, but_file, but_node, held, with_copy};
 ghost use Rattle.replica_table.specs.Sets.{among};
 ghost use Rattle.valid_copies.specs.Readings.{IsTextOf};
+ghost use Rattle.valid_copies.specs.RightCalls.{RightWork};
 ghost use Rattle.valid_copies.specs.Stands.{IsText, OthersStay, Stands, copy_of_bytes};
 ghost use Rattle.valid_copies.specs.Texts.{text_of};
 ghost use Rattle.name_values.specs.Values.{World, value_of};
@@ -36,6 +37,7 @@ pub fn put_copy<D: Disks>(
     ensures done { OnOk result (OnTold (Done (call.Write node name.now bytes.now)) (D.told disks.old) (D.told disks.new)) }
     ensures failed { OnErr result (OnTold (NotDone (call.Write node name.now bytes.now)) (D.told disks.old) (D.told disks.new)) }
     ensures valid { OnOk result ((w : World) (copies : List Copy) → IsTextOf w.shape name.now bytes.now (value_of w name.now) → Stands w copies (D.told disks.old) → Stands w (with_copy (copy_of_bytes name.now node bytes.now) copies) (D.told disks.new)) }
+    ensures calls { (w : World) → IsTextOf w.shape name.now bytes.now (value_of w name.now) → RightWork D.Disks w disks.old disks.new (Unit {0}) }
     ensures others { OnTold (OthersStay (node ∷ [])) (D.told disks.old) (D.told disks.new) }
     ensures damage_shown { D.shows_damage disks.old → D.shows_damage disks.new }
     ensures soundness_kept { D.sound disks.old → D.sound disks.new }
@@ -44,7 +46,7 @@ pub fn put_copy<D: Disks>(
 }
 
 /// Reads a copy. Where the disks tell what they hold, show their damage, and the copies are valid, the bytes are the text
-/// of its name, or it is missed. docs/CLUSTER.md, "Valid copies".
+/// of its name, or it is missed; where they are sound, it is not missed. docs/CLUSTER.md, "Valid copies".
 pub fn fetch_copy<D: Disks>(alloc: Global, disks: &mut D, file: &FileRef) -> Result<Fetched, Fault>
     ensures kept { IfOk result (HasDigest file.now.digest.0) }
     ensures faults_stay { D.faults disks.old ≤ D.faults disks.new }
@@ -56,6 +58,7 @@ pub fn fetch_copy<D: Disks>(alloc: Global, disks: &mut D, file: &FileRef) -> Res
     ensures done { IfOk result (λ fetched. OnTold (IsFetched file.now fetched) (D.told disks.old) (D.told disks.new)) }
     ensures failed { OnErr result (OnTold (NotRead file.now.node file.now.name file.now.digest.0 (Rose (D.misses disks.old) (D.misses disks.new))) (D.told disks.old) (D.told disks.new)) }
     ensures text { D.shows_damage disks.old → IfOk result (λ found. (w : World) (copies : List Copy) → Stands w copies (D.told disks.old) → IsSome (D.told disks.old) → held file.now.name file.now.node copies ≡ Some file.now.digest → IsText (text_of w file.now.name) found) }
+    ensures calls { (w : World) (copies : List Copy) → Stands w copies (D.told disks.old) → held file.now.name file.now.node copies ≡ Some file.now.digest → RightWork D.Disks w disks.old disks.new (IfOk result (λ found. OnMissed found ⊥)) }
     ensures valid { (w : World) (copies : List Copy) → Stands w copies (D.told disks.old) → Stands w copies (D.told disks.new) }
     ensures damage_shown { D.shows_damage disks.old → D.shows_damage disks.new }
     ensures soundness_kept { D.sound disks.old → D.sound disks.new }

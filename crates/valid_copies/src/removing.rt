@@ -9,6 +9,7 @@ ghost use Rattle.run_model.specs.Tasks.{is_cached};
 ghost use Rattle.hal_outside.specs.Told.{OnTold, Rose};
 ghost use Rattle.valid_copies.specs.Calls.{Added, Begun, Follows};
 ghost use Rattle.valid_copies.specs.Faults.{AtDevice, AtMissed};
+ghost use Rattle.valid_copies.specs.RightCalls.{RightWork};
 ghost use Rattle.valid_copies.specs.Removing.{OfClearing, OthersKept, RemovedSome, as_copies, goes, left_over, removal_of};
 ghost use Rattle.valid_copies.specs.Stands.{OthersStay, Stands};
 ghost use Rattle.valid_copies.specs.steps.Leaving.{stays_by};
@@ -77,6 +78,7 @@ fn clear_files<D: Disks>(
     ensures device { IfErr result (λ fault. AtDevice fault (Rose (D.faults disks.old) (D.faults disks.new))) }
     ensures not_missed { IsSome (D.told disks.old) → D.misses disks.new ≡ D.misses disks.old }
     ensures missed { IfErr result (λ fault. AtMissed fault ⊥) }
+    ensures calls { (w : World) → RightWork D.Disks w disks.old disks.new (IfErr result (λ fault. AtMissed fault ⊥)) }
     ensures damage_shown { D.shows_damage disks.old → D.shows_damage disks.new }
     ensures soundness_kept { D.sound disks.old → D.sound disks.new }
 {
@@ -114,6 +116,7 @@ pub fn clear_nodes<D: Disks>(
     ensures device { IfErr result (λ fault. AtDevice fault (Rose (D.faults disks.old) (D.faults disks.new))) }
     ensures not_missed { IsSome (D.told disks.old) → D.misses disks.new ≡ D.misses disks.old }
     ensures missed { IfErr result (λ fault. AtMissed fault ⊥) }
+    ensures calls { (w : World) → RightWork D.Disks w disks.old disks.new (IfErr result (λ fault. AtMissed fault ⊥)) }
     ensures damage_shown { D.shows_damage disks.old → D.shows_damage disks.new }
     ensures soundness_kept { D.sound disks.old → D.sound disks.new }
 {

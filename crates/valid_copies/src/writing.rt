@@ -8,6 +8,7 @@ ghost use Rattle.name_values.specs.Values.{World, value_of};
 ghost use Rattle.valid_copies.specs.Calls.{AddedAtMost};
 ghost use Rattle.valid_copies.specs.Faults.{AtDevice, AtMissed};
 ghost use Rattle.valid_copies.specs.Readings.{IsTextOf};
+ghost use Rattle.valid_copies.specs.RightCalls.{RightWork};
 ghost use Rattle.valid_copies.specs.Stands.{OthersStay, Stands};
 ghost use Rattle.valid_copies.specs.Writes.{Wrote, WroteSome, write_at, writes_at};
 ghost use Rattle.valid_copies.specs.steps.Further.{may_get, nodes_between, writes_between};
@@ -44,6 +45,7 @@ pub fn write_copy<D: Disks>(
     ensures device { IfErr result (λ fault. AtDevice fault (Rose (D.faults disks.old) (D.faults disks.new))) }
     ensures not_missed { IsSome (D.told disks.old) → D.misses disks.new ≡ D.misses disks.old }
     ensures missed { IfErr result (λ fault. AtMissed fault ⊥) }
+    ensures calls { (w : World) → IsTextOf w.shape name.now bytes.now (value_of w name.now) → RightWork D.Disks w disks.old disks.new (IfErr result (λ fault. AtMissed fault ⊥)) }
     ensures others { OnTold (OthersStay (node ∷ [])) (D.told disks.old) (D.told disks.new) }
     ensures damage_shown { D.shows_damage disks.old → D.shows_damage disks.new }
     ensures soundness_kept { D.sound disks.old → D.sound disks.new }
@@ -81,6 +83,7 @@ pub fn write_further<D: Disks>(
     ensures device { IfErr result (λ fault. AtDevice fault (Rose (D.faults disks.old) (D.faults disks.new))) }
     ensures not_missed { IsSome (D.told disks.old) → D.misses disks.new ≡ D.misses disks.old }
     ensures missed { IfErr result (λ fault. AtMissed fault ⊥) }
+    ensures calls { (w : World) → IsTextOf w.shape name.now bytes.now (value_of w name.now) → RightWork D.Disks w disks.old disks.new (IfErr result (λ fault. AtMissed fault ⊥)) }
     ensures others { (shape : Shape) → OnTold (OthersStay (nodes_for (record { shape = shape; schedule = schedule.now }) own table.old.up (holders name.now table.old))) (D.told disks.old) (D.told disks.new) }
     ensures damage_shown { D.shows_damage disks.old → D.shows_damage disks.new }
     ensures soundness_kept { D.sound disks.old → D.sound disks.new }
@@ -150,6 +153,7 @@ fn write_between<D: Disks>(
     ensures device { IfErr result (λ fault. AtDevice fault (Rose (D.faults disks.old) (D.faults disks.new))) }
     ensures not_missed { IsSome (D.told disks.old) → D.misses disks.new ≡ D.misses disks.old }
     ensures missed { IfErr result (λ fault. AtMissed fault ⊥) }
+    ensures calls { (w : World) → IsTextOf w.shape further.now.name further.now.bytes (value_of w further.now.name) → RightWork D.Disks w disks.old disks.new (IfErr result (λ fault. AtMissed fault ⊥)) }
     ensures others { OnTold (OthersStay (nodes_between further.now from to most)) (D.told disks.old) (D.told disks.new) }
     ensures damage_shown { D.shows_damage disks.old → D.shows_damage disks.new }
     ensures soundness_kept { D.sound disks.old → D.sound disks.new }

@@ -5,6 +5,7 @@ use Rattle.valid_copies.specs.Files.{AllRead, StarvedAt, StoppedBy}
 use Rattle.valid_copies.specs.Inputs.{names_in}
 use Rattle.valid_copies.proofs.Coming.{puts_more, puts_none}
 use Rattle.valid_copies.specs.Readings.{IsFile}
+use Rattle.valid_copies.proofs.Rightly.{works_more, works_none}
 use Rattle.valid_copies.proofs.inputs.read_inputs.Goals as goal
 
 pub inputs-init : goal.inputs-init
@@ -14,6 +15,7 @@ inputs-init g c = record {
   misses = omega arith;
   puts = puts_none (g.D.Disks.told c.args.disks.now);
   all_files = c.requires.all_files;
+  right = λ w s. works_none g.D.Disks w c.args.disks.now (Unit {0}) tt;
 }
 
 pub inputs-preserved : goal.inputs-preserved
@@ -29,6 +31,7 @@ inputs-preserved g c =
       misses = omega (arith, c.inputs.invariant.misses, c.in-Ok-Some.ensures.misses_stay);
       puts = puts_more (g.D.Disks.told c.args.disks.now) (g.D.Disks.told c.inputs.disks) _ c.inputs.invariant.puts c.in-Ok-Some.ensures.puts_stay;
       all_files = all.1;
+      right = λ w s. works_more g.D.Disks w c.args.disks.now c.inputs.disks c.read_all.new.disks _ _ (c.inputs.invariant.right w s) (c.in-Ok-Some.ensures.calls w (c.inputs.invariant.so_far.stands w c.args.desk.now.table.copies s));
     }
 
 pub returns-in-Err-keep_parts-clause-stopped : goal.returns-in-Err-keep_parts-clause-stopped
@@ -50,3 +53,12 @@ returns-in-Err-clause-stopped g c =
     let split = ap names_in c.in-Some.ensures.cases.0 in
     let stopped = subst (λ names. StoppedBy c.args.desk.now (g.D.Disks.told c.inputs.disks) names (g.D.Disks.told c.read_all.new.disks) c.in-Err.fault) c.as_slice.ensures.value c.in-Err.ensures.stopped in
     inputs_stopped c.args.desk.now _ _ _ _ _ _ (names_in c.args.inputs.now) (names_in c.inputs.rest.now) c.args.files.now.items c.inputs.files.items c.inputs.lists.items c.inputs.invariant.so_far _ c.in-Some.names.now.items (names_in c.in-Some.others.now) c.in-Err.fault split stopped
+
+pub returns-in-Err-keep_parts-clause-calls : goal.returns-in-Err-keep_parts-clause-calls
+returns-in-Err-keep_parts-clause-calls g c = λ w s. works_more g.D.Disks w c.args.disks.now c.inputs.disks c.read_all.new.disks _ _ (c.inputs.invariant.right w s) (c.in-Ok-Some.ensures.calls w (c.inputs.invariant.so_far.stands w c.args.desk.now.table.copies s))
+
+pub returns-in-Ok-None-clause-calls : goal.returns-in-Ok-None-clause-calls
+returns-in-Ok-None-clause-calls g c = λ w s. works_more g.D.Disks w c.args.disks.now c.inputs.disks c.read_all.new.disks _ _ (c.inputs.invariant.right w s) (c.in-Ok-None.ensures.calls w (c.inputs.invariant.so_far.stands w c.args.desk.now.table.copies s))
+
+pub returns-in-Err-clause-calls : goal.returns-in-Err-clause-calls
+returns-in-Err-clause-calls g c = λ w s. works_more g.D.Disks w c.args.disks.now c.inputs.disks c.read_all.new.disks _ _ (c.inputs.invariant.right w s) (c.in-Err.ensures.calls w (c.inputs.invariant.so_far.stands w c.args.desk.now.table.copies s))

@@ -3,6 +3,7 @@ use Rattle.std.specs.List.{AllByRecursion}
 use Rattle.valid_copies.proofs.Coming.{SoFar, so_far_memory, so_far_more, so_far_none, so_far_stopped}
 use Rattle.valid_copies.proofs.Coming.{puts_more, puts_none}
 use Rattle.valid_copies.specs.Readings.{IsFile}
+use Rattle.valid_copies.proofs.Rightly.{works_more, works_none}
 use Rattle.valid_copies.proofs.reading.read_all.Goals as goal
 
 pub names-init : goal.names-init
@@ -12,6 +13,7 @@ names-init g c = record {
   misses = omega arith;
   puts = puts_none (g.D.Disks.told c.args.disks.now);
   all_files = c.requires.all_files;
+  right = λ w s. works_none g.D.Disks w c.args.disks.now (Unit {0}) tt;
 }
 
 pub names-preserved : goal.names-preserved
@@ -25,6 +27,7 @@ names-preserved g c =
       misses = omega (arith, c.names.invariant.misses, c.in-Ok-Some.ensures.misses_stay);
       puts = puts_more (g.D.Disks.told c.args.disks.now) (g.D.Disks.told c.names.disks) _ c.names.invariant.puts c.in-Ok-Some.ensures.puts_stay;
       all_files = all.1;
+      right = λ w s. works_more g.D.Disks w c.args.disks.now c.names.disks c.read_need.new.disks _ _ (c.names.invariant.right w s) (c.in-Ok-Some.ensures.calls w (c.names.invariant.so_far.stands w c.args.desk.now.table.copies s));
     }
 
 pub returns-in-Err-keep-clause-stopped : goal.returns-in-Err-keep-clause-stopped
@@ -34,3 +37,12 @@ returns-in-Err-keep-clause-stopped g c =
 
 pub returns-in-Err-clause-stopped : goal.returns-in-Err-clause-stopped
 returns-in-Err-clause-stopped g c = so_far_stopped c.args.desk.now _ _ _ _ _ _ c.args.names.now c.names.rest.now c.args.files.now.items c.names.files.items c.names.lists c.names.invariant.so_far _ c.in-Some.name.now c.in-Some.others.now c.in-Err.fault c.in-Some.ensures.cases.0 c.in-Err.ensures.stopped
+
+pub returns-in-Err-keep-clause-calls : goal.returns-in-Err-keep-clause-calls
+returns-in-Err-keep-clause-calls g c = λ w s. works_more g.D.Disks w c.args.disks.now c.names.disks c.read_need.new.disks _ _ (c.names.invariant.right w s) (c.in-Ok-Some.ensures.calls w (c.names.invariant.so_far.stands w c.args.desk.now.table.copies s))
+
+pub returns-in-Ok-None-clause-calls : goal.returns-in-Ok-None-clause-calls
+returns-in-Ok-None-clause-calls g c = λ w s. works_more g.D.Disks w c.args.disks.now c.names.disks c.read_need.new.disks _ _ (c.names.invariant.right w s) (c.in-Ok-None.ensures.calls w (c.names.invariant.so_far.stands w c.args.desk.now.table.copies s))
+
+pub returns-in-Err-clause-calls : goal.returns-in-Err-clause-calls
+returns-in-Err-clause-calls g c = λ w s. works_more g.D.Disks w c.args.disks.now c.names.disks c.read_need.new.disks _ _ (c.names.invariant.right w s) (c.in-Err.ensures.calls w (c.names.invariant.so_far.stands w c.args.desk.now.table.copies s))

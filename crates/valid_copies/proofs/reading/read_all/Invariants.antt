@@ -2,7 +2,10 @@ use Rattle.std.proofs.Common.{◌≤◌, length}
 use Rattle.std.specs.List.{AllByRecursion}
 use Rattle.valid_copies.proofs.Coming.{SoFar}
 use Rattle.valid_copies.specs.Calls.{PutStays}
+use Rattle.name_values.specs.Values.{World}
 use Rattle.valid_copies.specs.Readings.{IsFile}
+use Rattle.valid_copies.specs.RightCalls.{RightWork}
+use Rattle.valid_copies.specs.Stands.{Stands}
 use Rattle.valid_copies.proofs.reading.read_all.Given as goal
 
 abbrev pub invariant-names : goal.invariant-names
@@ -12,6 +15,7 @@ invariant-names g l = record {
   misses : g.D.Disks.misses l.initial.disks ≤ g.D.Disks.misses l.disks;
   puts : PutStays (g.D.Disks.told l.initial.disks) (g.D.Disks.told l.disks);
   all_files : AllByRecursion IsFile l.rest;
+  right : (w : World) → Stands w l.fn.desk.table.copies (g.D.Disks.told l.initial.disks) → RightWork g.D.Disks w l.initial.disks l.disks (Unit {0});
 }
 
 abbrev pub decreases-names : goal.decreases-names

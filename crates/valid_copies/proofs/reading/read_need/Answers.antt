@@ -3,6 +3,7 @@ use Rattle.valid_copies.specs.Readings.{StandsFor}
 use Rattle.valid_copies.proofs.Coming.{Asks, came_one, failed_one, fetched_added, missed_one, stopped_one}
 use Rattle.valid_copies.specs.Files.{Any, Desk}
 use Rattle.hal_outside.specs.DiskCalls as disk
+use Rattle.valid_copies.proofs.Rightly.{works_none, works_so}
 use Rattle.valid_copies.proofs.reading.read_need.Goals as goal
 
 pub returns-in-Ok-clause-found : goal.returns-in-Ok-clause-found
@@ -28,3 +29,21 @@ returns-in-Err-Device-clause-stopped g c = failed_one c.args.desk.now _ _ c.args
 
 pub returns-clause-stopped : goal.returns-clause-stopped
 returns-clause-stopped g c = failed_one c.args.desk.now _ _ c.args.name.now c.in-Some.file _ (record { first = c.in-Some.ensures.first; kept = c.in-Some.ensures.kept }) c.in-Err-Memory.ensures.failed
+
+pub returns-in_default-clause-calls : goal.returns-in_default-clause-calls
+returns-in_default-clause-calls g c = λ w s. works_none g.D.Disks w c.args.disks.now (Unit {0}) tt
+
+pub returns-in-Ok-clause-calls : goal.returns-in-Ok-clause-calls
+returns-in-Ok-clause-calls g c = λ w s. works_so g.D.Disks w c.args.disks.now c.fetch_copy.new.disks _ _ (λ _. tt) (c.in-Ok-Bytes.ensures.calls w c.args.desk.now.table.copies s c.in-Some.ensures.kept)
+
+pub returns-in-Ok-Bytes-clause-calls : goal.returns-in-Ok-Bytes-clause-calls
+returns-in-Ok-Bytes-clause-calls g c = λ w s. works_so g.D.Disks w c.args.disks.now c.fetch_copy.new.disks _ _ (λ _. tt) (c.in-Ok-Bytes.ensures.calls w c.args.desk.now.table.copies s c.in-Some.ensures.kept)
+
+pub returns-in-Ok-Missed-clause-calls : goal.returns-in-Ok-Missed-clause-calls
+returns-in-Ok-Missed-clause-calls g c = λ w s. (rw c.in-Ok-Missed.field-0-is at c.in-Ok-Missed.ensures.calls) w c.args.desk.now.table.copies s c.in-Some.ensures.kept
+
+pub returns-in-Err-Device-clause-calls : goal.returns-in-Err-Device-clause-calls
+returns-in-Err-Device-clause-calls g c = λ w s. c.in-Err-Device.ensures.calls w c.args.desk.now.table.copies s c.in-Some.ensures.kept
+
+pub returns-clause-calls : goal.returns-clause-calls
+returns-clause-calls g c = λ w s. c.in-Err-Memory.ensures.calls w c.args.desk.now.table.copies s c.in-Some.ensures.kept

@@ -1,6 +1,7 @@
 use Rattle.std.proofs.Common.{[]}
 use Rattle.replica_table.specs.Sets.{members}
 use Rattle.valid_copies.proofs.Clearing.{cleared_begun, cleared_follows, cleared_others, cleared_stands}
+use Rattle.valid_copies.proofs.Rightly.{works_removed, works_removed_some}
 use Rattle.valid_copies.proofs.removing.clear_files.Goals as goal
 
 pub returns-in-Ok-clause-followed : goal.returns-in-Ok-clause-followed
@@ -17,3 +18,9 @@ returns-in-Err-clause-stopped g c = cleared_begun c.args.shape.now c.args.keep c
 
 pub returns-in-Err-clause-others : goal.returns-in-Err-clause-others
 returns-in-Err-clause-others g c = cleared_others c.args.shape.now c.args.keep c.args.round (members c.args.nodes.0) c.args.table.now.copies c.args.files.now c.requires.listed _ _ c.in-Err.ensures.others
+
+pub returns-in-Ok-clause-calls : goal.returns-in-Ok-clause-calls
+returns-in-Ok-clause-calls g c = λ w. works_removed g.D.Disks w c.args.disks.now c.remove_files.new.disks c.args.files.now c.in-Ok.ensures.removed c.in-Ok.ensures.soundness_kept c.in-Ok.ensures.not_missed
+
+pub returns-in-Err-clause-calls : goal.returns-in-Err-clause-calls
+returns-in-Err-clause-calls g c = λ w. works_removed_some g.D.Disks w c.args.disks.now c.remove_files.new.disks c.args.files.now _ c.in-Err.ensures.missed c.in-Err.ensures.begun c.in-Err.ensures.soundness_kept c.in-Err.ensures.not_missed

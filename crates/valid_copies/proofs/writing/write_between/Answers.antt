@@ -9,6 +9,9 @@ use Rattle.valid_copies.specs.Readings.{IsTextOf}
 use Rattle.valid_copies.specs.Stands.{OthersStay, Stands}
 use Rattle.valid_copies.specs.Writes.{Wrote, write_at}
 use Rattle.valid_copies.specs.steps.Further.{Further}
+use Rattle.valid_copies.proofs.Rightly.{works_more, works_wrote}
+use Rattle.valid_copies.specs.Faults.{AtMissed}
+use Rattle.valid_copies.specs.RightCalls.{RightWork}
 use Rattle.valid_copies.proofs.writing.write_between.Goals as goal
 use Rattle.valid_copies.proofs.writing.write_between.Goals.{then-left-gt0+then-may_get+in-Ok, else-left-gt0, else-left-gt0-via-then-left-gt0+else-may_get, else-left-gt0-via-else-left-gt0}
 
@@ -51,3 +54,13 @@ nodes-preserved g c = elim c.if-left-gt0.branch [
     }
   ])
 ]
+
+pub returns-clause-calls : goal.returns-clause-calls
+returns-clause-calls g c = λ w is. works_wrote g.D.Disks w c.args.disks.now c.nodes.disks c.args.table.now c.nodes.table c.nodes.invariant.so_far.taken c.args.further.now.name c.args.further.now.bytes is c.nodes.invariant.so_far.wrote c.nodes.invariant.steady.soundness c.nodes.invariant.steady.not_missed
+
+pub returns-in-Err-clause-calls : goal.returns-in-Err-clause-calls
+returns-in-Err-clause-calls g c = λ w is.
+    let last = subst (λ (f : Further). (w : World) → IsTextOf w.shape f.name f.bytes (value_of w f.name) → RightWork g.D.Disks w c.nodes.disks c.write_copy.new.disks (AtMissed c.in-Err.fault ⊥)) c.further.view_is c.in-Err.ensures.calls in
+    works_more g.D.Disks w c.args.disks.now c.nodes.disks c.write_copy.new.disks _ _
+    (works_wrote g.D.Disks w c.args.disks.now c.nodes.disks c.args.table.now c.nodes.table c.nodes.invariant.so_far.taken c.args.further.now.name c.args.further.now.bytes is c.nodes.invariant.so_far.wrote c.nodes.invariant.steady.soundness c.nodes.invariant.steady.not_missed)
+    (last w is)

@@ -2,6 +2,7 @@ use Rattle.std.proofs.Common.{◌∙◌, ◌-◌, ◌<◌, length, refl, ap, sub
 use Rattle.replica_table.specs.Sets.{members}
 use Rattle.valid_copies.proofs.FurtherNodes.{further_later, further_others, further_others_first, further_sooner, further_written}
 use Rattle.valid_copies.specs.steps.Further.{Further}
+use Rattle.valid_copies.proofs.Rightly.{works_more}
 use Rattle.valid_copies.proofs.writing.write_further.Goals as goal
 
 pub returns-in-Ok-write_between-clause-written : goal.returns-in-Ok-write_between-clause-written
@@ -42,3 +43,9 @@ returns-in-Err-clause-others g c = λ shape.
     let within = subst (λ n. c.args.own < n) c.requires.nodes c.requires.own in
     let it : Further = record { name = c.args.name.now; bytes = c.args.bytes.now; up = members c.up.result.0; holders = members c.where_is.result.0 } in
     further_others_first it _ _ c.args.schedule.now.copies _ _ c.args.own _ c.up.ensures.nodes c.where_is.ensures.nodes number within refl _ _ c.in-Err.ensures.others
+
+pub returns-in-Ok-write_between-clause-calls : goal.returns-in-Ok-write_between-clause-calls
+returns-in-Ok-write_between-clause-calls g c = λ w is. works_more g.D.Disks w c.args.disks.now _ _ _ _ (c.in-Ok.ensures.calls w is) (c.in-Ok-write_between.ensures.calls w is)
+
+pub returns-in-Err-write_between-clause-calls : goal.returns-in-Err-write_between-clause-calls
+returns-in-Err-write_between-clause-calls g c = λ w is. works_more g.D.Disks w c.args.disks.now _ _ _ _ (c.in-Ok.ensures.calls w is) (c.in-Err-write_between.ensures.calls w is)
