@@ -1,6 +1,6 @@
 -- Whether a round is decided, and what its decision tells of the chain.
 use Rattle.std.proofs.Common.{◌≡◌, ◌<◌, ◌≤◌, ℕ, add-one, ◌+◌, ◌==◌, ◌&&◌, ◌||◌, Bool, true, false, cond, nat_lt, nat_le, min, sum, List, [], ◌∷◌, Option, None, Some, length, slice_get, map, refl, sym, ap, ◌∙◌, arith}
-use Rattle.std.proofs.lemmas.Bool.{eqb-true, le-ltb, ltb-false}
+use Rattle.std.proofs.lemmas.Bool.{eq-eqb, eqb-true, le-leb, le-ltb, lt-ltb, ltb-false, ne_eqb}
 use Rattle.std.proofs.lemmas.Bool.Decides.{nat_tests}
 use Rattle.std.specs.Prelude.{if◌then◌else◌}
 use Rattle.counter_report.specs.declared.journal.EndWord.TheVariants.{Limit}
@@ -9,12 +9,15 @@ use Rattle.fixpoint_test.specs.Follows.{Follows, IsDistanceOf}
 use Rattle.fixpoint_test.specs.declared.decision.Next.{Next}
 use Rattle.fixpoint_test.specs.declared.decision.Next.TheVariants as next
 use Rattle.name_values.specs.Values.{World}
-use Rattle.plain_job.specs.Ends.{Reaches, round_distance}
+use Rattle.plain_job.specs.Ends.{Ends, EndsBy, Reaches, round_distance}
 use Rattle.task_values.specs.Tests.{test_of}
 use Rattle.task_values.proofs.Testing.{tests_make}
 use Rattle.fixpoint_test.proofs.Deciding.{decisions_tell}
 use Rattle.task_values.specs.Worlds.{WorldFits}
-use Rattle.cluster_core.specs.Deciding.{Tells, decision_of, known_values, near_word, total_of}
+use Rattle.counter_report.specs.declared.journal.EndWord.{EndWord}
+use Rattle.counter_report.specs.declared.journal.EndWord.TheVariants.{Fixpoint, Close}
+use Rattle.cluster_core.specs.Deciding.{Tells, chain_decision, decision_of, end_of, known_values, near_word, total_of}
+use Rattle.cluster_core.specs.Turns.{DecidesSo, GoesOnUntil}
 use Rattle.std.specs.List.{list_all, range_with_len}
 use Rattle.replica_table.specs.Sets.{among}
 use Rattle.run_model.specs.Advance.{is_decided}
@@ -52,7 +55,7 @@ values_are w i k (Some value ∷ values) all right =
     later values p v e = ap (slice_get (Some value ∷ values)) (add-one p) ∙ e
 
 -- the total of right values is the distance of the round
-total_is : (w : World) (i : ℕ) (values : List (Option ℕ)) → WorldFits w → 2 ≤ i → i ≤ w.shape.rounds → list_all is_known values ≡ true → length values ≡ test_count w.shape
+pub total_is : (w : World) (i : ℕ) (values : List (Option ℕ)) → WorldFits w → 2 ≤ i → i ≤ w.shape.rounds → list_all is_known values ≡ true → length values ≡ test_count w.shape
     → ((p value : ℕ) → slice_get values p ≡ Some (Some value) → value ≡ test_of w i p) → total_of values ≡ round_distance w.means w.shape w.tables i
 total_is w i values fits late in_time all count right =
     ap (λ vs. min (sum vs) 9223372036854775807) (values_are w i 0 values all (λ p v e. right p v e ∙ ap (test_of w i) (none p)) ∙ ap (λ n. map (test_of w i) (range_with_len 0 n)) count)
@@ -101,3 +104,42 @@ module _ (w : World) (i : ℕ) (values : List (Option ℕ)) (fits : WorldFits w)
     where
       first : (i : ℕ) → 1 ≤ i → nat_le 2 i ≡ false → i ≡ 1
       first i begun late = grind (arith, nat_tests)
+
+-- ---- the decisions of the chain
+
+-- a total that is the distance of the round makes the decision of the chain
+pub same_decision : (w : World) (i : ℕ) (values : List (Option ℕ)) → (2 ≤ i → total_of values ≡ round_distance w.means w.shape w.tables i) → chain_decision w i ≡ decision_of w.shape i values
+same_decision w i values total =
+    elim (nat_le 2 i) as (λ b. nat_le 2 i ≡ b → cond (b && nat_lt (round_distance w.means w.shape w.tables i) w.shape.threshold) (Some (near_word w.shape.exact)) (cond (i == w.shape.rounds) (Some Limit) None) ≡ cond (b && nat_lt (total_of values) w.shape.threshold) (Some (near_word w.shape.exact)) (cond (i == w.shape.rounds) (Some Limit) None)) [
+      | true ↦ λ late. ap (λ far. cond (nat_lt far w.shape.threshold) (Some (near_word w.shape.exact)) (cond (i == w.shape.rounds) (Some Limit) None)) (sym (total (late_is i late)))
+      | false ↦ λ late. refl
+    ] refl
+
+module _ (w : World) (i : ℕ) where
+  -- a round that is not near the one before ends the loop only as the last
+  far_is : (2 ≤ i → w.shape.threshold ≤ round_distance w.means w.shape w.tables i) → chain_decision w i ≡ cond (i == w.shape.rounds) (Some Limit) None
+  far_is far = elim (nat_le 2 i) as (λ b. nat_le 2 i ≡ b → cond (b && nat_lt (round_distance w.means w.shape w.tables i) w.shape.threshold) (Some (near_word w.shape.exact)) (cond (i == w.shape.rounds) (Some Limit) None) ≡ cond (i == w.shape.rounds) (Some Limit) None) [
+    | true ↦ λ late. ap (λ b. cond b (Some (near_word w.shape.exact)) (cond (i == w.shape.rounds) (Some Limit) None)) (le-ltb (round_distance w.means w.shape w.tables i) w.shape.threshold (far (late_is i late)))
+    | false ↦ λ late. refl
+  ] refl
+
+  near_is : 2 ≤ i → round_distance w.means w.shape w.tables i < w.shape.threshold → chain_decision w i ≡ Some (near_word w.shape.exact)
+  near_is late less =
+      ap (λ b. cond (b && nat_lt (round_distance w.means w.shape w.tables i) w.shape.threshold) (Some (near_word w.shape.exact)) (cond (i == w.shape.rounds) (Some Limit) None)) (le-leb 2 i late)
+      ∙ ap (λ b. cond b (Some (near_word w.shape.exact)) (cond (i == w.shape.rounds) (Some Limit) None)) (lt-ltb (round_distance w.means w.shape w.tables i) w.shape.threshold less)
+
+-- the loop goes on in each round before one that the chain comes to
+pub goes_until : (w : World) (i : ℕ) → Reaches w.means w.shape w.tables i → GoesOnUntil i (chain_decision w)
+goes_until w i reached k l = far_is w k (λ late. reached.not_before k late l) ∙ ap (λ b. cond b (Some Limit) None) (ne_eqb k w.shape.rounds (unlike k i w.shape.rounds l reached.within.1))
+  where
+    unlike : (k i n : ℕ) → k < i → i ≤ n → k ≡ n → ⊥
+    unlike k i n l m e = omega (arith, l, m, e)
+
+-- and where it ends, it decides so
+pub chain_ends : (w : World) (i : ℕ) (word : EndWord) → Ends w.means w.shape w.tables i (end_of word) → DecidesSo i (Some word) (chain_decision w)
+chain_ends w i word ends = (goes_until w i ends.reached, by word ends.by)
+  where
+    by : (word : EndWord) → EndsBy w.means w.shape w.tables i (end_of word) → chain_decision w i ≡ Some word
+    by Fixpoint e = near_is w i e.1 e.2 ∙ ap (λ b. Some (near_word b)) e.0
+    by Close e = near_is w i e.1 e.2 ∙ ap (λ b. Some (near_word b)) e.0
+    by Limit e = far_is w i e.1 ∙ ap (λ b. cond b (Some Limit) None) (eq-eqb i w.shape.rounds e.0)

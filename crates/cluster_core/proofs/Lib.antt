@@ -9,6 +9,7 @@ pub mod Fitting
 pub mod Going
 pub mod Happening
 pub mod Inside
+pub mod Keeping
 pub mod Known
 pub mod Left
 pub mod LoadCalls
@@ -24,6 +25,8 @@ pub mod PartReads
 pub mod Places
 pub mod ReadRight
 pub mod Ready
+pub mod Refused
+pub mod RightTurns
 pub mod Rightness
 pub mod RoundChanges
 pub mod Rounds

@@ -1,5 +1,5 @@
 -- The calls of a load, and the plan that they follow.
-use Rattle.std.proofs.Common.{◌≡◌, ℕ, false, List, [], ◌∷◌, ◌++◌, Option, None, Some, Result, Ok, Err, OnOk, OnErr, map, refl, sym, ap, subst, ◌∙◌, append-nil}
+use Rattle.std.proofs.Common.{◌≡◌, ℕ, false, List, [], ◌∷◌, ◌++◌, Option, Result, Ok, Err, OnOk, OnErr, map, refl, sym, ap, subst, ◌∙◌, append-nil}
 use Rattle.std.specs.List.{AllByRecursion, flat_map}
 use Rattle.std.proofs.lemmas.List.{append_assoc, map-append}
 use Rattle.hal_base.specs.declared.record.Record.{Record}
@@ -18,11 +18,13 @@ use Rattle.run_model.specs.Runs.{block_writes, load, loaded}
 use Rattle.run_model.specs.State.{Setup}
 use Rattle.valid_copies.proofs.Coming.{added_more}
 use Rattle.valid_copies.proofs.PlanWrites.{copies_planned, planned}
+use Rattle.valid_copies.proofs.Rightly.{right_added}
 use Rattle.valid_copies.proofs.Steps.{text_is}
 use Rattle.valid_copies.specs.Calls.{Added, AreAnswered, Begun, Follows, Leads, made_of}
+use Rattle.valid_copies.specs.RightCalls.{IsRightCall, RightCalls}
 use Rattle.valid_copies.specs.Writes.{FileWrite, IsNextWrite, WroteSome, table_with, write_of}
 use Rattle.cluster_core.specs.Filling.{AddedSome, HasItsText, block_bytes, block_files, copy_of, empty_table, load_calls, load_files, table_files}
-use Rattle.cluster_core.specs.Loading.{IsLoaded, IsOfText, WroteTexts}
+use Rattle.cluster_core.specs.Loading.{IsLoaded}
 use Rattle.cluster_core.proofs.Fillings.{all_front}
 
 -- ---- some of the calls
@@ -128,21 +130,12 @@ is_loaded setup tables table e = subst (IsLoaded setup) (sym e) (record {
 
 -- ---- texts
 
-texts_of : (w : World) (files : List FileWrite) → AllByRecursion (HasItsText w) files → AllByRecursion (IsOfText w) (map write_of files)
-texts_of w files a = all_mapped (HasItsText w) (IsOfText w) write_of files (λ file t. text_is w file.name file.bytes t) a
+texts_of : (w : World) (files : List FileWrite) → AllByRecursion (HasItsText w) files → AllByRecursion (IsRightCall w) (map write_of files)
+texts_of w files a = all_mapped (HasItsText w) (IsRightCall w) write_of files (λ file t. text_is w file.name file.bytes t) a
 
-wipes_texts : (w : World) (nodes : List ℕ) → AllByRecursion (IsOfText w) (map disk.Wipe nodes)
+wipes_texts : (w : World) (nodes : List ℕ) → AllByRecursion (IsRightCall w) (map disk.Wipe nodes)
 wipes_texts w [] = tt
 wipes_texts w (n ∷ nodes) = (tt, wipes_texts w nodes)
-
-wrote_texts : (w : World) (calls : List disk.Call) (before after : Option DiskTold) → AllByRecursion (IsOfText w) calls → Added before calls after → OnTold (WroteTexts w) before after
-wrote_texts w calls None None t a = refl
-wrote_texts w calls None (Some new) t a = cc
-wrote_texts w calls (Some old) None t a = cc
-wrote_texts w calls (Some old) (Some new) t a = record { calls = calls; added = same a; texts = t }
-  where
-    same : Some new.calls ≡ Some (old.calls ++ calls) → new.calls ≡ old.calls ++ calls
-    same e = cc
 
 -- ---- by what was answered
 
@@ -155,9 +148,9 @@ stopped_begun (Ok a) setup tables before after h = tt
 stopped_begun (Err b) setup tables before after h = load_begun setup tables before after h
 
 pub any_texts : {A B : Type 0} (result : Result A B) (w : World) (setup : Setup) (tables : List (List Record)) (before after : Option DiskTold) → AllByRecursion (HasItsText w) (load_files setup tables)
-    → OnOk result (Added before (load_calls setup tables) after) → OnErr result (AddedSome (load_calls setup tables) before after) → OnTold (WroteTexts w) before after
+    → OnOk result (Added before (load_calls setup tables) after) → OnErr result (AddedSome (load_calls setup tables) before after) → OnTold (RightCalls w) before after
 any_texts (Ok a) w setup tables before after t done some =
-    wrote_texts w (load_calls setup tables) before after (all_both (IsOfText w) (map disk.Wipe (below setup.schedule.nodes)) (map write_of (load_files setup tables)) (wipes_texts w (below setup.schedule.nodes)) (texts_of w (load_files setup tables) t)) done
+    right_added w before after (load_calls setup tables) done (all_both (IsRightCall w) (map disk.Wipe (below setup.schedule.nodes)) (map write_of (load_files setup tables)) (wipes_texts w (below setup.schedule.nodes)) (texts_of w (load_files setup tables) t))
 any_texts (Err b) w setup tables before after t done some =
-    let all = all_both (IsOfText w) (map disk.Wipe (below setup.schedule.nodes)) (map write_of (load_files setup tables)) (wipes_texts w (below setup.schedule.nodes)) (texts_of w (load_files setup tables) t) in
-    wrote_texts w some.calls before after (all_front (IsOfText w) some.calls some.left (subst (AllByRecursion (IsOfText w)) (sym some.whole) all)) some.added
+    let all = all_both (IsRightCall w) (map disk.Wipe (below setup.schedule.nodes)) (map write_of (load_files setup tables)) (wipes_texts w (below setup.schedule.nodes)) (texts_of w (load_files setup tables) t) in
+    right_added w before after some.calls some.added (all_front (IsRightCall w) some.calls some.left (subst (AllByRecursion (IsRightCall w)) (sym some.whole) all))

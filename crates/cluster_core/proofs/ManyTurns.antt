@@ -1,6 +1,5 @@
 -- Turns of a cluster, one after another, as turns of the machine.
-use Rattle.std.proofs.Common.{◌≡◌, ◌⊎◌, inl, inr, ◌<◌, ℕ, zero, suc, ◌+◌, cond, List, [], ◌∷◌, ◌++◌, Option, None, Some, IsSome, Ok, map, refl, sym, ap, ◌∙◌, subst, arith}
-use Rattle.std.proofs.lemmas.Bool.{eq-eqb, ne_eqb}
+use Rattle.std.proofs.Common.{◌≡◌, ◌⊎◌, inl, inr, ◌<◌, ℕ, zero, suc, ◌+◌, true, false, List, [], ◌∷◌, ◌++◌, Option, None, Some, IsSome, Result, Ok, Err, map, refl, sym, ap, ◌∙◌, subst, arith}
 use Rattle.std.proofs.lemmas.List.{append_assoc, map-append}
 use Rattle.counter_report.specs.declared.journal.EndWord.{EndWord}
 use Rattle.hal_outside.specs.DiskCalls as disk
@@ -10,6 +9,7 @@ use Rattle.run_laws.proofs.Following.{decides_where_decided, one_turn_more}
 use Rattle.run_laws.specs.Measures.{measure}
 use Rattle.run_laws.specs.States.{EndsInTime}
 use Rattle.run_laws.specs.Turns.{as_turns}
+use Rattle.run_model.specs.Advance.{is_decided}
 use Rattle.run_model.specs.Plans as why
 use Rattle.run_model.specs.Plans.{Leaves, Plan, gives, refuses, ◌>>=◌}
 use Rattle.run_model.specs.Runs.{load, loaded, run, turns}
@@ -17,16 +17,21 @@ use Rattle.run_model.specs.State.{PlainCluster, Setup}
 use Rattle.run_model.specs.Turns.{Turned, acted, ends, turn}
 use Rattle.valid_copies.specs.Calls.{Added, Begun, Follows, Leads, MissedIn, made_of}
 use Rattle.valid_copies.proofs.Coming.{added_more}
+use Rattle.name_values.specs.Values.{World}
+use Rattle.valid_copies.proofs.Rightly.{works_more}
 use Rattle.valid_copies.proofs.Following.{answered_both, begun_then, follows_none, follows_then, missed_then}
-use Rattle.cluster_core.specs.Clusters.{Acted, ActedOnce, IsBegun, Progress, Ran, RanToEnd, RanToFault, RunsUntil, IsRightAfter, answer_in, decisions_until, finished_in}
+use Rattle.cluster_core.specs.Clusters.{Acted, ActedOnce, IsBegun, Progress, Ran, RanToEnd, RanToFault, RunsUntil, ComesTo, IsByChain, IsRightAfter, answer_in, finished_in}
 use Rattle.cluster_core.specs.declared.cluster.Turned.{Turned as CodeTurned}
 use Rattle.cluster_core.specs.declared.cluster.Turned.TheVariants as turned
 use Rattle.cluster_core.specs.Disks.{Leaves as LeavesDisks}
 use Rattle.cluster_core.specs.Faults.{RefusedIn}
 use Rattle.cluster_core.specs.States as states
 use Rattle.cluster_core.specs.States.{Seen}
-use Rattle.cluster_core.specs.Turns.{IsRight, IsRunning, decision_in, turned_to}
-use Rattle.cluster_core.specs.Works.{StandsFor, world_of}
+use Rattle.cluster_core.specs.Turns.{DecidesAt, DecidesSo, GoesOnUntil, IsOfChain, IsRight, IsRunning, decision_in, turned_to}
+use Rattle.cluster_core.specs.Works.{CallsRight, StandsFor, world_of}
+use Rattle.cluster_core.specs.Deciding.{chain_decision}
+use Rattle.cluster_core.proofs.Decided.{chain_ends}
+use Rattle.hal_base.specs.declared.record.Record.{Record}
 use Rattle.task_values.specs.Worlds.{WorldFits}
 use Rattle.hal_base.specs.Meaning.{Meaning}
 use Rattle.hal_outside.specs.Told.{OnTold}
@@ -104,10 +109,6 @@ module _ (n : ℕ) (setup : Setup) (decisions : ℕ → Option EndWord) (c d : P
   refused_on new (core.Device device) r = begun_on r
   refused_on new core.Memory r = begun_on r
 
--- decisions by which the loop goes on in each round before this one
-abbrev pub GoesOnUntil : ℕ → (ℕ → Option EndWord) → Type 0
-GoesOnUntil round decisions = (i : ℕ) → i < round → decisions i ≡ None
-
 -- a turn that acted is one under such decisions
 same_turn : (seen : Seen) (new : PlainCluster) (setup : Setup) (decisions : ℕ → Option EndWord) → seen.setup ≡ setup → GoesOnUntil new.round decisions → TurnedTo seen.setup (decision_in seen) seen.plain (acted new) → turn seen.setup (decision_in seen) seen.plain ≡ turn setup (decisions seen.plain.round) seen.plain
 same_turn seen new setup decisions same goes (inl x) = decides_where_decided seen.setup (decision_in seen) (decisions seen.plain.round) seen.plain x.0 ∙ ap (λ (s : Setup). turn s (decisions seen.plain.round) seen.plain) same
@@ -142,24 +143,23 @@ many_follow (suc n) old new before after running a decisions goes =
 
 -- ---- until the last turn
 
-until_goes_on : (round : ℕ) (decision : Option EndWord) → GoesOnUntil round (decisions_until round decision)
-until_goes_on round decision i l = ap (λ b. cond b decision None) (ne_eqb i round (λ e. omega arith))
-
-until_is : (round : ℕ) (decision : Option EndWord) → decisions_until round decision round ≡ decision
-until_is round decision = ap (λ b. cond b decision None) (eq-eqb round round refl)
-
 module _ (old last new : Seen) (before between after : Option DiskTold) (running : IsRunning old.setup old.plain) (ran : Ran old before last between) where
-  all_before : Follows (turns ran.count old.setup (decisions_until last.plain.round (decision_in last)) old.plain) before between (gives (acted last.plain))
-  all_before = many_follow ran.count old last before between running ran.acts (decisions_until last.plain.round (decision_in last)) (until_goes_on last.plain.round (decision_in last))
+  -- the last turn is one under decisions that decide it so
+  last_turn : (decisions : ℕ → Option EndWord) → (is_decided last.setup last.plain ≡ true → decisions last.plain.round ≡ decision_in last) → turn last.setup (decision_in last) last.plain ≡ turn old.setup (decisions last.plain.round) last.plain
+  last_turn decisions agree =
+      elim (is_decided last.setup last.plain) as (λ b. is_decided last.setup last.plain ≡ b → turn last.setup (decision_in last) last.plain ≡ turn last.setup (decisions last.plain.round) last.plain) [
+        | true ↦ λ e. ap (λ (d : Option EndWord). turn last.setup d last.plain) (sym (agree e))
+        | false ↦ λ e. decides_where_decided last.setup (decision_in last) (decisions last.plain.round) last.plain e
+      ] refl
+      ∙ ap (λ (s : Setup). turn s (decisions last.plain.round) last.plain) ran.same
 
-  last_turn : turn last.setup (decision_in last) last.plain ≡ turn old.setup (decisions_until last.plain.round (decision_in last) last.plain.round) last.plain
-  last_turn = ap (λ (s : Setup). turn s (decision_in last) last.plain) ran.same ∙ ap (λ (d : Option EndWord). turn old.setup d last.plain) (sym (until_is last.plain.round (decision_in last)))
+  all_before : (decisions : ℕ → Option EndWord) → GoesOnUntil last.plain.round decisions → Follows (turns ran.count old.setup decisions old.plain) before between (gives (acted last.plain))
+  all_before decisions goes = many_follow ran.count old last before between running ran.acts decisions goes
 
   pub ran_to_end : (it : Finished) → Follows (turn last.setup (decision_in last) last.plain) between after (gives (ends new.plain it.end)) → it.rounds ≡ new.plain.round → RanToEnd old before new after it
   ran_to_end it f rounds =
       let k = many_kept ran.count old last before between running ran.acts in
       let came = turned_in last (ends new.plain it.end) between after k.running f in
-      let whole = follows_on ran.count old.setup (decisions_until last.plain.round (decision_in last)) old.plain last.plain before between after all_before (gives (ends new.plain it.end)) (subst (λ plan. Follows plan between after (gives (ends new.plain it.end))) last_turn f) in
       record {
         last = last;
         between = between;
@@ -168,9 +168,13 @@ module _ (old last new : Seen) (before between after : Option DiskTold) (running
         decided = came.0;
         same_round = came.1;
         rounds = rounds;
-        as_turns = subst (λ (d : Option EndWord). Follows (turns (suc ran.count) old.setup (decisions_until new.plain.round d) old.plain) before after (gives (ends new.plain it.end))) came.0
-            (subst (λ round. Follows (turns (suc ran.count) old.setup (decisions_until round (decision_in last)) old.plain) before after (gives (ends new.plain it.end))) (sym came.1) whole);
+        as_turns = λ decisions so. follows_on ran.count old.setup decisions old.plain last.plain before between after (all_before decisions (subst (λ round. GoesOnUntil round decisions) came.1 so.0)) (gives (ends new.plain it.end))
+            (subst (λ plan. Follows plan between after (gives (ends new.plain it.end))) (last_turn decisions (λ e. ap decisions (sym came.1) ∙ so.1 ∙ sym came.0)) f);
       }
+
+  -- all turns, of which the last was not brought to its end
+  fault_as_turns : (fault : CoreFault) → RefusedIn (turn last.setup (decision_in last) last.plain) between after new.plain fault → (decisions : ℕ → Option EndWord) → DecidesAt last decisions → RefusedIn (turns (suc ran.count) old.setup decisions old.plain) before after new.plain fault
+  fault_as_turns fault r decisions so = refused_on ran.count old.setup decisions old.plain last.plain before between after (all_before decisions so.0) new.plain fault (subst (λ plan. RefusedIn plan between after new.plain fault) (last_turn decisions so.1) r)
 
   pub ran_to_fault : (fault : CoreFault) → RefusedIn (turn last.setup (decision_in last) last.plain) between after new.plain fault → RanToFault old before new after fault
   ran_to_fault fault r = record {
@@ -178,8 +182,20 @@ module _ (old last new : Seen) (before between after : Option DiskTold) (running
     between = between;
     ran = ran;
     refused = r;
-    as_turns = refused_on ran.count old.setup (decisions_until last.plain.round (decision_in last)) old.plain last.plain before between after all_before new.plain fault (subst (λ plan. RefusedIn plan between after new.plain fault) last_turn r);
+    as_turns = fault_as_turns fault r;
   }
+
+  -- the same, under the decisions of the chain
+  pub fault_by_chain : (m : Meaning) (shows : Type 0) (fault : CoreFault) → RefusedIn (turn last.setup (decision_in last) last.plain) between after new.plain fault → IsRightAfter m old shows before between last.kept None → IsOfChain last → IsByChain m old shows before after new.plain (Err fault)
+  fault_by_chain m shows fault r right chain tables fits s t stands =
+      let w = world_of m old.setup tables in
+      (ran.count, fault_as_turns fault r (chain_decision w) (chain w between (ap (λ (x : Setup). x.shape) (sym ran.same)) fits (right tables fits s t stands)))
+
+-- a run to its end, under the decisions of the chain
+pub end_by_chain : (m : Meaning) (old new : Seen) (shows : Type 0) (before after : Option DiskTold) (it : Finished) → RanToEnd old before new after it → IsRightAfter m old shows before after new.kept (Some it) → IsByChain m old shows before after new.plain (Ok it)
+end_by_chain m old new shows before after it ran right tables fits s t stands =
+    let w = world_of m old.setup tables in
+    (ran.ran.count, ran.as_turns (chain_decision w) (subst (λ i. DecidesSo i (Some it.end) (chain_decision w)) ran.rounds (chain_ends w it.rounds it.end (right tables fits s t stands).1)))
 
 -- ---- after load
 
@@ -187,24 +203,35 @@ module _ (setup : Setup) (old : Progress) (new : Seen) (before between after : O
   begun_so : (P : Setup → PlainCluster → Type 0) → P old.state.setup old.state.plain → P setup (loaded setup)
   begun_so P p = subst (P setup) begun.plain_is (subst (λ (x : Setup). P x old.state.plain) begun.setup_is p)
 
+  -- what was refused after load was refused
+  loaded_refused : (fault : CoreFault) (more : PlainCluster → Plan Turned) → RefusedIn (more (loaded setup)) between after new.plain fault → RefusedIn (load setup >>= more) before after new.plain fault
+  loaded_refused (core.TaskFailed task) more r = follows_then (load setup) (loaded setup) more (refuses new.plain (why.TaskFailed task)) before between after load_is r
+  loaded_refused core.NotBuilt more r = missed_then (load setup) (loaded setup) more before between after load_is r
+  loaded_refused (core.Device device) more r = begun_then (load setup) (loaded setup) more before between after load_is r
+  loaded_refused core.Memory more r = begun_then (load setup) (loaded setup) more before between after load_is r
+
   -- load, and then a run of the cluster, is a run of the machine
-  pub loaded_to_end : (it : Finished) (ran : RanToEnd old.state between new after it) → Follows (run (suc ran.ran.count) setup (decisions_until new.plain.round (Some it.end))) before after (gives (ends new.plain it.end))
-  loaded_to_end it ran =
-      let decisions = decisions_until new.plain.round (Some it.end) in
-      let rest = begun_so (λ x c. Follows (turns (suc ran.ran.count) x decisions c) between after (gives (ends new.plain it.end))) ran.as_turns in
+  pub loaded_to_end : (it : Finished) (ran : RanToEnd old.state between new after it) (decisions : ℕ → Option EndWord) → DecidesSo new.plain.round (Some it.end) decisions → Follows (run (suc ran.ran.count) setup decisions) before after (gives (ends new.plain it.end))
+  loaded_to_end it ran decisions so =
+      let rest = begun_so (λ x c. Follows (turns (suc ran.ran.count) x decisions c) between after (gives (ends new.plain it.end))) (ran.as_turns decisions so) in
       follows_then (load setup) (loaded setup) (turns (suc ran.ran.count) setup decisions) (gives (ends new.plain it.end)) before between after load_is rest
 
-  pub loaded_to_fault : (fault : CoreFault) (ran : RanToFault old.state between new after fault) → RefusedIn (run (suc ran.ran.count) setup (decisions_until ran.last.plain.round (decision_in ran.last))) before after new.plain fault
-  loaded_to_fault fault ran =
-      let decisions = decisions_until ran.last.plain.round (decision_in ran.last) in
-      let rest = begun_so (λ x c. RefusedIn (turns (suc ran.ran.count) x decisions c) between after new.plain fault) ran.as_turns in
-      by_fault fault (turns (suc ran.ran.count) setup decisions) rest
+  pub loaded_to_fault : (fault : CoreFault) (ran : RanToFault old.state between new after fault) (decisions : ℕ → Option EndWord) → DecidesAt ran.last decisions → RefusedIn (run (suc ran.ran.count) setup decisions) before after new.plain fault
+  loaded_to_fault fault ran decisions so =
+      let rest = begun_so (λ x c. RefusedIn (turns (suc ran.ran.count) x decisions c) between after new.plain fault) (ran.as_turns decisions so) in
+      loaded_refused fault (turns (suc ran.ran.count) setup decisions) rest
+
+  -- and under the decisions of the chain
+  pub loaded_by_chain : (m : Meaning) (shows : Type 0) (result : Result Finished CoreFault) → IsByChain m old.state shows between after new.plain result
+      → (tables : List (List Record)) → WorldFits (world_of m setup tables) → shows → IsSome between → StandsFor (world_of m setup tables) old.state.kept between
+      → (n : ℕ) × ComesTo (run (suc n) setup (chain_decision (world_of m setup tables))) before after new.plain result
+  loaded_by_chain m shows result by tables fits s t stands =
+      let all = begun_so (λ x c. WorldFits (world_of m x tables) → StandsFor (world_of m x tables) old.state.kept between → (n : ℕ) × ComesTo (turns (suc n) x (chain_decision (world_of m x tables)) c) between after new.plain result) (λ fits stands. by tables fits s t stands) fits stands in
+      (all.0, by_result result (turns (suc all.0) setup (chain_decision (world_of m setup tables))) all.1)
     where
-      by_fault : (fault : CoreFault) (more : PlainCluster → Plan Turned) → RefusedIn (more (loaded setup)) between after new.plain fault → RefusedIn (load setup >>= more) before after new.plain fault
-      by_fault (core.TaskFailed task) more r = follows_then (load setup) (loaded setup) more (refuses new.plain (why.TaskFailed task)) before between after load_is r
-      by_fault core.NotBuilt more r = missed_then (load setup) (loaded setup) more before between after load_is r
-      by_fault (core.Device device) more r = begun_then (load setup) (loaded setup) more before between after load_is r
-      by_fault core.Memory more r = begun_then (load setup) (loaded setup) more before between after load_is r
+      by_result : (result : Result Finished CoreFault) (more : PlainCluster → Plan Turned) → ComesTo (more (loaded setup)) between after new.plain result → ComesTo (load setup >>= more) before after new.plain result
+      by_result (Ok it) more f = follows_then (load setup) (loaded setup) more (gives (ends new.plain it.end)) before between after load_is f
+      by_result (Err fault) more r = loaded_refused fault more r
 
 -- ---- the loop
 
@@ -215,6 +242,7 @@ pub record SoFar {D : Type 0} (g : Disks D) (m : Meaning) (first now : Progress)
   pub ran : Ran first.state (g.told old) now.state (g.told new)
   pub left : LeavesDisks g first.state.setup.schedule.nodes old new
   pub right : IsRightAfter m first.state (g.shows_damage old) (g.told old) (g.told new) now.state.kept None
+  pub calls : CallsRight g m first.state.setup first.state.kept old new (Unit {0})
 
 pub left_on : {D : Type 0} (g : Disks D) (m : Meaning) (first now : Progress) (old between after : D) → SoFar g m first now old between → LeavesDisks g now.state.setup.schedule.nodes between after → LeavesDisks g first.state.setup.schedule.nodes old after
 left_on g m first now old between after s left = leaves_more g first.state.setup.schedule.nodes old between after s.left (subst (λ (x : Setup). LeavesDisks g x.schedule.nodes between after) s.ran.same left)
@@ -232,6 +260,14 @@ right_on g m first now old between after new finished s right tables fits shows 
     subst (λ (x : Setup). WorldFits (world_of m x tables) → g.shows_damage between → IsSome (g.told between) → StandsFor (world_of m x tables) now.state.kept (g.told between) → IsRight (world_of m x tables) (g.told after) new finished) s.ran.same (right tables)
     fits (s.left.damage_shown shows) (tells_on first.state.setup.schedule.nodes (g.told old) (g.told between) s.left.others told) (s.right tables fits shows told stands)
 
+-- the calls of one turn more
+pub calls_on : {D : Type 0} (g : Disks D) (m : Meaning) (first now : Progress) (old between after : D) (p : Type 0) → SoFar g m first now old between
+    → CallsRight g m now.state.setup now.state.kept between after p → CallsRight g m first.state.setup first.state.kept old after p
+calls_on g m first now old between after p s calls shows tables fits told stands =
+    let w : World = world_of m first.state.setup tables in
+    works_more g w old between after (Unit {0}) p (s.calls shows tables fits told stands)
+    (subst (λ (x : Setup). CallsRight g m x now.state.kept between after p) s.ran.same calls (s.left.damage_shown shows) tables fits (tells_on first.state.setup.schedule.nodes (g.told old) (g.told between) s.left.others told) (s.right tables fits shows told stands))
+
 module _ {D : Type 0} (g : Disks D) (m : Meaning) (first now new : Progress) (old between after : D) (s : SoFar g m first now old between) (it : CodeTurned) where
   once_of : it ≡ turned.Acted → Follows (turn now.state.setup (decision_in now.state) now.state.plain) (g.told between) (g.told after) (gives (turned_to (finished_in it) new.state.plain)) → new.state.setup ≡ now.state.setup → ActedOnce now.state (g.told between) new.state (g.told after)
   once_of is f same = record { follows = subst (λ t. Follows (turn now.state.setup (decision_in now.state) now.state.plain) (g.told between) (g.told after) (gives (turned_to (finished_in t) new.state.plain))) is f; same = same }
@@ -240,8 +276,8 @@ module _ {D : Type 0} (g : Disks D) (m : Meaning) (first now new : Progress) (ol
   less_left is f same = subst (λ (x : Setup). measure x new.state.plain < measure x now.state.plain) s.ran.same (once_falls now.state new.state (g.told between) (g.told after) s.running (once_of is f same))
 
   pub one_more : it ≡ turned.Acted → Follows (turn now.state.setup (decision_in now.state) now.state.plain) (g.told between) (g.told after) (gives (turned_to (finished_in it) new.state.plain)) → new.state.setup ≡ now.state.setup → new.answered ≡ answer_in (Ok it) → LeavesDisks g now.state.setup.schedule.nodes between after
-      → IsRightAfter m now.state (g.shows_damage between) (g.told between) (g.told after) new.state.kept (finished_in it) → SoFar g m first new old after
-  one_more is f same answered left right =
+      → IsRightAfter m now.state (g.shows_damage between) (g.told between) (g.told after) new.state.kept (finished_in it) → CallsRight g m now.state.setup now.state.kept between after (Unit {0}) → SoFar g m first new old after
+  one_more is f same answered left right calls =
       let once = once_of is f same in
       record {
         unanswered = answered ∙ ap (λ t. answer_in (Ok t)) is;
@@ -249,6 +285,7 @@ module _ {D : Type 0} (g : Disks D) (m : Meaning) (first now new : Progress) (ol
         ran = record { count = suc s.ran.count; acts = (now.state, g.told between, s.ran.acts, once); same = same ∙ s.ran.same };
         left = left_on g m first now old between after s left;
         right = right_on g m first now old between after new.state.kept None s (subst (λ t. IsRightAfter m now.state (g.shows_damage between) (g.told between) (g.told after) new.state.kept (finished_in t)) is right);
+        calls = calls_on g m first now old between after (Unit {0}) s calls;
       }
 
 -- the run goes on where nothing is answered

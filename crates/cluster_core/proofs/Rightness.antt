@@ -24,11 +24,11 @@ use Rattle.task_values.specs.Worlds.{WorldFits}
 use Rattle.task_values.proofs.LastParts.{parts_read}
 use Rattle.valid_copies.specs.Stands.{Stands}
 use Rattle.cluster_core.specs.Deciding.{Tells, decision_of, end_of}
-use Rattle.cluster_core.specs.States.{Kept, is_known, known_in, plain_of}
-use Rattle.cluster_core.specs.Turns.{IsRight, Rightly}
+use Rattle.cluster_core.specs.States.{Kept, is_known, known_in, plain_of, seen_of}
+use Rattle.cluster_core.specs.Turns.{IsOfChain, IsRight, Rightly}
 use Rattle.cluster_core.specs.Works.{StandsFor, StaysRight, world_of}
 use Rattle.cluster_core.specs.declared.finished.Finished.{Finished}
-use Rattle.cluster_core.proofs.Decided.{decision_tells}
+use Rattle.cluster_core.proofs.Decided.{decision_tells, goes_until, same_decision, total_is}
 use Rattle.cluster_core.proofs.Known.{all_is}
 use Rattle.cluster_core.proofs.PartLoops.{value_in}
 
@@ -79,6 +79,14 @@ decided_tells w setup shows told kept right tests decided begun in_time =
     subst (λ (shape : Shape). Tells w kept.round (decision_of shape kept.round kept.values)) right.shape_is
     (decision_tells w kept.round kept.values right.fits begun (subst (λ (shape : Shape). kept.round ≤ shape.rounds) (sym right.shape_is) in_time) right.stands.reached
     (λ late. (known_where setup kept tests decided late, tests ∙ ap test_count (sym right.shape_is))) right.stands.values)
+
+-- a state keeps to the chain that it stands for
+pub of_chain : (setup : Setup) (kept : Kept) → length kept.values ≡ test_count setup.shape → IsOfChain (seen_of setup.shape setup.schedule kept)
+of_chain setup kept tests w told shape fits stands = (
+  goes_until w kept.round stands.reached,
+  λ decided. same_decision w kept.round kept.values (λ late. total_is w kept.round kept.values fits late stands.reached.within.1 (known_where setup kept tests decided late) (tests ∙ ap test_count (sym shape)) stands.values)
+      ∙ ap (λ (shape : Shape). decision_of shape kept.round kept.values) shape,
+)
 
 -- no value is known of those that are forgotten
 forgot : (values : List (Option ℕ)) (p value : ℕ) → slice_get (map (λ (_ : Option ℕ). None) values) p ≡ Some (Some value) → ⊥

@@ -1,5 +1,5 @@
 -- A cluster as its users see it: turn after turn, and what it has answered for good.
-use Rattle.std.specs.Prelude.{◌≡◌, ℕ, zero, suc, ◌==◌, List, Option, None, Some, IsSome, Result, Ok, Err, if◌then◌else◌}
+use Rattle.std.specs.Prelude.{◌≡◌, ℕ, zero, suc, List, Option, None, Some, IsSome, Result, Ok, Err}
 use Rattle.hal_base.specs.declared.record.Record.{Record}
 use Rattle.hal_base.specs.declared.shape.Shape.{Shape}
 use Rattle.hal_base.specs.Meaning.{Meaning}
@@ -9,15 +9,17 @@ use Rattle.schedule_text.specs.declared.schedule.Schedule.{Schedule}
 use Rattle.counter_report.specs.declared.journal.EndWord.{EndWord}
 use Rattle.loop_scheduler.specs.Views.{IsCounted}
 use Rattle.run_laws.specs.WithoutLoss.{AreQuiet, HasNoCaches}
-use Rattle.run_model.specs.Plans.{gives}
+use Rattle.run_model.specs.Plans.{Plan, gives}
 use Rattle.run_model.specs.Runs.{loaded, turns}
-use Rattle.run_model.specs.State.{Setup}
+use Rattle.run_model.specs.State.{PlainCluster, Setup}
+use Rattle.run_model.specs.Turns as machine
 use Rattle.run_model.specs.Turns.{acted, ends, turn}
 use Rattle.valid_copies.specs.Calls.{Follows}
+use Rattle.cluster_core.specs.Deciding.{chain_decision}
 use Rattle.cluster_core.specs.Faults.{RefusedIn}
 use Rattle.task_values.specs.Worlds.{WorldFits}
 use Rattle.cluster_core.specs.States.{Kept, Seen}
-use Rattle.cluster_core.specs.Turns.{IsRight, IsRunning, decision_in}
+use Rattle.cluster_core.specs.Turns.{DecidesAt, DecidesSo, IsRight, IsRunning, decision_in}
 use Rattle.cluster_core.specs.Works.{StandsFor, world_of}
 use Rattle.cluster_core.specs.declared.cluster.Answer.{Answer}
 use Rattle.cluster_core.specs.declared.cluster.Answer.TheVariants as answer
@@ -95,17 +97,13 @@ abbrev pub Acted : ℕ → Seen → Option DiskTold → Seen → Option DiskTold
 Acted zero old before new after = (new ≡ old) × (after ≡ before)
 Acted (suc n) old before new after = (middle : Seen) × (between : Option DiskTold) × Acted n old before middle between × ActedOnce middle between new after
 
--- the loop goes on in each other round, and this is the decision on this round
-abbrev pub decisions_until : ℕ → Option EndWord → ℕ → Option EndWord
-decisions_until round decision i = if i == round then decision else None
-
 -- some turns that acted, one after another
 pub record Ran (old : Seen) (before : Option DiskTold) (last : Seen) (between : Option DiskTold) : Type 0 where
   pub count : ℕ
   pub acts : Acted count old before last between
   pub same : last.setup ≡ old.setup
 
--- turns acted, and one more finished the run; all of them are turns of the machine, of which each but the last goes on
+-- turns acted, and one more finished the run; all of them are turns of the machine, under any decisions that go on until the end and end so
 pub record RanToEnd (old : Seen) (before : Option DiskTold) (new : Seen) (after : Option DiskTold) (it : Finished) : Type 0 where
   pub last : Seen
   pub between : Option DiskTold
@@ -114,17 +112,28 @@ pub record RanToEnd (old : Seen) (before : Option DiskTold) (new : Seen) (after 
   pub decided : decision_in last ≡ Some it.end
   pub same_round : new.plain.round ≡ last.plain.round
   pub rounds : it.rounds ≡ new.plain.round
-  pub as_turns : Follows (turns (suc ran.count) old.setup (decisions_until new.plain.round (Some it.end)) old.plain) before after (gives (ends new.plain it.end))
+  pub as_turns : (decisions : ℕ → Option EndWord) → DecidesSo new.plain.round (Some it.end) decisions → Follows (turns (suc ran.count) old.setup decisions old.plain) before after (gives (ends new.plain it.end))
 
--- turns acted, and one more was not brought to its end; all of them are turns of the machine, of which each but the last goes on
+-- turns acted, and one more was not brought to its end; all of them are turns of the machine, under any decisions that go on until that turn and decide it so
 pub record RanToFault (old : Seen) (before : Option DiskTold) (new : Seen) (after : Option DiskTold) (fault : CoreFault) : Type 0 where
   pub last : Seen
   pub between : Option DiskTold
   pub ran : Ran old before last between
   pub refused : RefusedIn (turn last.setup (decision_in last) last.plain) between after new.plain fault
-  pub as_turns : RefusedIn (turns (suc ran.count) old.setup (decisions_until last.plain.round (decision_in last)) old.plain) before after new.plain fault
+  pub as_turns : (decisions : ℕ → Option EndWord) → DecidesAt last decisions → RefusedIn (turns (suc ran.count) old.setup decisions old.plain) before after new.plain fault
 
 -- what is right after turns, where it was before: over functions and tables that fit, and disks that tell and show their damage
 abbrev pub IsRightAfter : Meaning → Seen → Type 0 → Option DiskTold → Option DiskTold → Kept → Option Finished → Type 0
 IsRightAfter m old shows before after new finished =
     (tables : List (List Record)) → WorldFits (world_of m old.setup tables) → shows → IsSome before → StandsFor (world_of m old.setup tables) old.kept before → IsRight (world_of m old.setup tables) after new finished
+
+-- the calls of a plan led to the end of the run, or to the fault that stopped it
+abbrev pub ComesTo : Plan machine.Turned → Option DiskTold → Option DiskTold → PlainCluster → Result Finished CoreFault → Type 0
+ComesTo plan before after new (Ok it) = Follows plan before after (gives (ends new it.end))
+ComesTo plan before after new (Err fault) = RefusedIn plan before after new fault
+
+-- what was done is so many turns of the machine under the decisions of the chain, over functions and tables that fit, disks that
+-- tell and show their damage, and a state that is right
+abbrev pub IsByChain : Meaning → Seen → Type 0 → Option DiskTold → Option DiskTold → PlainCluster → Result Finished CoreFault → Type 0
+IsByChain m old shows before after new result =
+    (tables : List (List Record)) → WorldFits (world_of m old.setup tables) → shows → IsSome before → StandsFor (world_of m old.setup tables) old.kept before → (n : ℕ) × ComesTo (turns (suc n) old.setup (chain_decision (world_of m old.setup tables)) old.plain) before after new result

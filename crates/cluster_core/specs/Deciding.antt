@@ -1,6 +1,6 @@
 -- What follows on a round, by the values of its tests.
 use Rattle.std.specs.Prelude.{ℕ, ◌+◌, ◌==◌, ◌&&◌, nat_le, nat_lt, min, sum, Bool, true, false, List, [], ◌∷◌, Option, None, Some, if◌then◌else◌}
-use Rattle.plain_job.specs.Ends.{Ends, Reaches}
+use Rattle.plain_job.specs.Ends.{Ends, Reaches, round_distance}
 use Rattle.plain_job.specs.declared.ending.End.{End}
 use Rattle.plain_job.specs.declared.ending.End.TheVariants as end
 use Rattle.name_values.specs.Values.{World}
@@ -40,6 +40,10 @@ word_of next.Limit = Some Limit
 -- the decision on a round: the word with which the loop ends, or none where it goes on
 abbrev pub decision_of : Shape → ℕ → List (Option ℕ) → Option EndWord
 decision_of shape round values = if is_near shape round values then Some (near_word shape.exact) else if round == shape.rounds then Some Limit else None
+
+-- the decision on a round by the chain itself: the word with which the loop ends, or none where it goes on
+abbrev pub chain_decision : World → ℕ → Option EndWord
+chain_decision w round = if nat_le 2 round && nat_lt (round_distance w.means w.shape w.tables round) w.shape.threshold then Some (near_word w.shape.exact) else if round == w.shape.rounds then Some Limit else None
 
 -- the end of the chain that a word tells
 abbrev pub end_of : EndWord → End

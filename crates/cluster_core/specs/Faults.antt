@@ -30,6 +30,13 @@ AtMissed NotBuilt p = p
 AtMissed (Device device) p = Unit {0}
 AtMissed Memory p = Unit {0}
 
+-- p where a task failed too often, or a read missed
+abbrev pub AtRefusal : CoreFault → Type 0 → Type 0
+AtRefusal (TaskFailed task) p = p
+AtRefusal NotBuilt p = p
+AtRefusal (Device device) p = Unit {0}
+AtRefusal Memory p = Unit {0}
+
 -- the calls of a plan that an attempt could not bring to its end: after a miss, those until that; else some first calls
 abbrev pub StoppedIn : {A : Type 0} → Plan A → Option DiskTold → Option DiskTold → WorkFault → Type 0
 StoppedIn plan before after (work.Device device) = Begun plan before after

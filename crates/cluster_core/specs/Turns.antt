@@ -1,5 +1,5 @@
 -- What a turn of the cluster comes to.
-use Rattle.std.specs.Prelude.{◌≡◌, ◌≤◌, IsSome, Option, None, Some, List, [], ◌∷◌}
+use Rattle.std.specs.Prelude.{◌≡◌, ℕ, ◌<◌, ◌≤◌, true, IsSome, Option, None, Some, List, [], ◌∷◌}
 use Rattle.hal_base.specs.declared.shape.Shape.{Shape}
 use Rattle.hal_outside.specs.DiskTold.{DiskTold}
 use Rattle.name_values.specs.Values.{World}
@@ -12,11 +12,11 @@ use Rattle.counter_report.specs.declared.journal.Entry.TheVariants.{End}
 use Rattle.run_laws.specs.Refusals.{Tallied}
 use Rattle.run_laws.specs.States.{Fits}
 use Rattle.run_laws.specs.WithoutLoss.{StaysOrderly}
-use Rattle.run_model.specs.Advance.{Advanced, decide, finished, goes_on, pass}
+use Rattle.run_model.specs.Advance.{Advanced, decide, finished, goes_on, is_decided, pass}
 use Rattle.run_model.specs.Plans.{Plan, gives, ◌>>=◌}
 use Rattle.run_model.specs.State.{PlainCluster, Setup, noted}
 use Rattle.run_model.specs.Turns.{Turned, acted, ends}
-use Rattle.cluster_core.specs.Deciding.{decision_of, end_of}
+use Rattle.cluster_core.specs.Deciding.{chain_decision, decision_of, end_of}
 use Rattle.cluster_core.specs.Works.{StandsFor}
 use Rattle.cluster_core.specs.States.{Kept, Seen}
 use Rattle.cluster_core.specs.declared.finished.Finished.{Finished}
@@ -31,6 +31,23 @@ pub record IsRunning (setup : Setup) (c : PlainCluster) : Type 0 where
 -- the decision on the round of the cluster
 abbrev pub decision_in : Seen → Option EndWord
 decision_in seen = decision_of seen.setup.shape seen.plain.round seen.kept.values
+
+-- decisions by which the loop goes on in each round before this one
+abbrev pub GoesOnUntil : ℕ → (ℕ → Option EndWord) → Type 0
+GoesOnUntil round decisions = (i : ℕ) → i < round → decisions i ≡ None
+
+-- such decisions, of which this is the one on the round
+abbrev pub DecidesSo : ℕ → Option EndWord → (ℕ → Option EndWord) → Type 0
+DecidesSo round decision decisions = GoesOnUntil round decisions × (decisions round ≡ decision)
+
+-- such decisions, of which the one on the round of this state, if that is decided, is the one that the values of its tests make
+abbrev pub DecidesAt : Seen → (ℕ → Option EndWord) → Type 0
+DecidesAt seen decisions = GoesOnUntil seen.plain.round decisions × (is_decided seen.setup seen.plain ≡ true → decisions seen.plain.round ≡ decision_in seen)
+
+-- where functions and tables fit and the state is right, its chain goes on until the round, and on a round that is decided the chain
+-- decides as the values of its tests do
+abbrev pub IsOfChain : Seen → Type 0
+IsOfChain seen = (w : World) (told : Option DiskTold) → w.shape ≡ seen.setup.shape → WorldFits w → StandsFor w seen.kept told → DecidesAt seen (chain_decision w)
 
 -- what advance comes to: the run goes on, or is finished
 abbrev pub advanced_to : Option Finished → PlainCluster → Advanced

@@ -1,7 +1,8 @@
 -- What work on a cluster rests on, and what becomes of attempts.
-use Rattle.std.specs.Prelude.{◌≡◌, ℕ, ◌<◌, ◌≤◌, List, Option, Some, IsSome, slice_get}
+use Rattle.std.specs.Prelude.{◌≡◌, ℕ, ◌<◌, ◌≤◌, List, Option, None, Some, IsSome, slice_get}
 use Rattle.hal_base.specs.declared.record.Record.{Record}
 use Rattle.hal_base.specs.Meaning.{Meaning}
+use Rattle.hal_outside.specs.declared.disks.Disks.{Ghosts as Disks}
 use Rattle.hal_outside.specs.DiskTold.{DiskTold}
 use Rattle.node_names.specs.declared.task.Task.{Task}
 use Rattle.name_values.specs.Values.{World}
@@ -16,6 +17,7 @@ use Rattle.run_model.specs.Tasks.{IsTask}
 use Rattle.run_model.specs.declared.attempt.Attempt.{Attempt}
 use Rattle.task_values.specs.Tests.{test_of}
 use Rattle.task_values.specs.Worlds.{WorldFits}
+use Rattle.valid_copies.specs.RightCalls.{RightWork}
 use Rattle.valid_copies.specs.Stands.{Stands}
 use Rattle.cluster_core.specs.States.{Kept}
 
@@ -44,3 +46,15 @@ pub record StandsFor (w : World) (kept : Kept) (told : Option DiskTold) : Type 0
 abbrev pub StaysRight : Meaning → Setup → Type 0 → Option DiskTold → Option DiskTold → Kept → Kept → Type 0
 StaysRight m setup shows before after old new =
     (tables : List (List Record)) → WorldFits (world_of m setup tables) → shows → IsSome before → StandsFor (world_of m setup tables) old before → StandsFor (world_of m setup tables) new after
+
+-- the same, whatever the disks hold then: the kept digests and the values of tests are right, and the chain comes to the round
+abbrev pub KeepsRight : Meaning → Setup → Type 0 → Option DiskTold → Kept → Kept → Type 0
+KeepsRight m setup shows before old new = StaysRight m setup shows before None old new
+
+-- P of what a cluster computes over any tables that fit, as the functions do, where the disks tell and the state is right
+abbrev pub OverRight : Meaning → Setup → Option DiskTold → Kept → (World → Type 0) → Type 0
+OverRight m setup told kept P = (tables : List (List Record)) → WorldFits (world_of m setup tables) → IsSome told → StandsFor (world_of m setup tables) kept told → P (world_of m setup tables)
+
+-- then, and where the disks show their damage, each call that was added is right; over sound disks no read missed, and p
+abbrev pub CallsRight : {D : Type 0} → Disks D → Meaning → Setup → Kept → D → D → Type 0 → Type 0
+CallsRight g m setup kept old new p = g.shows_damage old → OverRight m setup (g.told old) kept (λ w. RightWork g w old new p)

@@ -11,8 +11,8 @@ ghost use Rattle.schedule_text.specs.declared.schedule.Event.TheVariants as even
 ghost use Rattle.valid_copies.specs.Calls.{Follows};
 ghost use Rattle.valid_copies.specs.Faults as work;
 ghost use Rattle.cluster_core.specs.Disks.{Leaves};
-ghost use Rattle.cluster_core.specs.Faults.{AtDevice, AtMissed, IsRefused, RefusedIn, StoppedIn};
-ghost use Rattle.cluster_core.specs.Works.{CanWork, StaysRight};
+ghost use Rattle.cluster_core.specs.Faults.{AtDevice, AtMissed, AtRefusal, IsRefused, RefusedIn, StoppedIn};
+ghost use Rattle.cluster_core.specs.Works.{CallsRight, CanWork, KeepsRight, StaysRight};
 
 use crate::fault::CoreFault;
 use crate::running::{count_failure, oldest, oldest_on, take_out};
@@ -40,7 +40,10 @@ impl State {
         ensures acted { OnOk result (Follows (act self.old.setup self.old.plain) (D.told disks.old) (D.told disks.new) (gives self.new.plain)) }
         ensures refused { IfErr result (RefusedIn (act self.old.setup self.old.plain) (D.told disks.old) (D.told disks.new) self.new.plain) }
         ensures right { OnOk result (StaysRight (F.meaning functions.now) self.old.setup (D.shows_damage disks.old) (D.told disks.old) (D.told disks.new) self.old.kept self.new.kept) }
+        ensures still { IfErr result (λ fault. AtRefusal fault (StaysRight (F.meaning functions.now) self.old.setup (D.shows_damage disks.old) (D.told disks.old) (D.told disks.new) self.old.kept self.new.kept)) }
+        ensures keeps { OnErr result (KeepsRight (F.meaning functions.now) self.old.setup (D.shows_damage disks.old) (D.told disks.old) self.old.kept self.new.kept) }
         ensures same { self.new.setup ≡ self.old.setup }
+        ensures calls { CallsRight D.Disks (F.meaning functions.now) self.old.setup self.old.kept disks.old disks.new (IfErr result (λ fault. AtMissed fault ⊥)) }
         ensures disks { Leaves D.Disks self.old.setup.schedule.nodes disks.old disks.new }
         ensures device { IfErr result (λ fault. AtDevice fault (Rose (D.faults disks.old) (D.faults disks.new))) }
         ensures missed { IfErr result (λ fault. AtMissed fault (Rose (D.misses disks.old) (D.misses disks.new))) }
@@ -75,7 +78,10 @@ impl State {
         ensures acted { OnOk result (Follows (act self.old.setup self.old.plain) (D.told disks.old) (D.told disks.new) (gives self.new.plain)) }
         ensures stopped { IfErr result (StoppedIn (act self.old.setup self.old.plain) (D.told disks.old) (D.told disks.new)) }
         ensures right { OnOk result (StaysRight (F.meaning functions.now) self.old.setup (D.shows_damage disks.old) (D.told disks.old) (D.told disks.new) self.old.kept self.new.kept) }
+        ensures still { IfErr result (λ fault. work.AtMissed fault (StaysRight (F.meaning functions.now) self.old.setup (D.shows_damage disks.old) (D.told disks.old) (D.told disks.new) self.old.kept self.new.kept)) }
+        ensures keeps { OnErr result (KeepsRight (F.meaning functions.now) self.old.setup (D.shows_damage disks.old) (D.told disks.old) self.old.kept self.new.kept) }
         ensures same { self.new.setup ≡ self.old.setup }
+        ensures calls { CallsRight D.Disks (F.meaning functions.now) self.old.setup self.old.kept disks.old disks.new (IfErr result (λ fault. work.AtMissed fault ⊥)) }
         ensures disks { Leaves D.Disks self.old.setup.schedule.nodes disks.old disks.new }
         ensures device { IfErr result (λ fault. work.AtDevice fault (Rose (D.faults disks.old) (D.faults disks.new))) }
         ensures missed { IfErr result (λ fault. work.AtMissed fault (Rose (D.misses disks.old) (D.misses disks.new))) }
@@ -100,7 +106,10 @@ impl State {
         ensures acted { OnOk result (Follows (act self.old.setup self.old.plain) (D.told disks.old) (D.told disks.new) (gives self.new.plain)) }
         ensures stopped { IfErr result (StoppedIn (act self.old.setup self.old.plain) (D.told disks.old) (D.told disks.new)) }
         ensures right { OnOk result (StaysRight (F.meaning functions.now) self.old.setup (D.shows_damage disks.old) (D.told disks.old) (D.told disks.new) self.old.kept self.new.kept) }
+        ensures still { IfErr result (λ fault. work.AtMissed fault (StaysRight (F.meaning functions.now) self.old.setup (D.shows_damage disks.old) (D.told disks.old) (D.told disks.new) self.old.kept self.new.kept)) }
+        ensures keeps { OnErr result (KeepsRight (F.meaning functions.now) self.old.setup (D.shows_damage disks.old) (D.told disks.old) self.old.kept self.new.kept) }
         ensures same { self.new.setup ≡ self.old.setup }
+        ensures calls { CallsRight D.Disks (F.meaning functions.now) self.old.setup self.old.kept disks.old disks.new (IfErr result (λ fault. work.AtMissed fault ⊥)) }
         ensures disks { Leaves D.Disks self.old.setup.schedule.nodes disks.old disks.new }
         ensures device { IfErr result (λ fault. work.AtDevice fault (Rose (D.faults disks.old) (D.faults disks.new))) }
         ensures missed { IfErr result (λ fault. work.AtMissed fault (Rose (D.misses disks.old) (D.misses disks.new))) }
@@ -126,7 +135,10 @@ impl State {
         ensures acted { OnOk result (Follows (act self.old.setup self.old.plain) (D.told disks.old) (D.told disks.new) (gives self.new.plain)) }
         ensures stopped { IfErr result (StoppedIn (act self.old.setup self.old.plain) (D.told disks.old) (D.told disks.new)) }
         ensures right { OnOk result (StaysRight (F.meaning functions.now) self.old.setup (D.shows_damage disks.old) (D.told disks.old) (D.told disks.new) self.old.kept self.new.kept) }
+        ensures still { IfErr result (λ fault. work.AtMissed fault (StaysRight (F.meaning functions.now) self.old.setup (D.shows_damage disks.old) (D.told disks.old) (D.told disks.new) self.old.kept self.new.kept)) }
+        ensures keeps { OnErr result (KeepsRight (F.meaning functions.now) self.old.setup (D.shows_damage disks.old) (D.told disks.old) self.old.kept self.new.kept) }
         ensures same { self.new.setup ≡ self.old.setup }
+        ensures calls { CallsRight D.Disks (F.meaning functions.now) self.old.setup self.old.kept disks.old disks.new (IfErr result (λ fault. work.AtMissed fault ⊥)) }
         ensures disks { Leaves D.Disks self.old.setup.schedule.nodes disks.old disks.new }
         ensures device { IfErr result (λ fault. work.AtDevice fault (Rose (D.faults disks.old) (D.faults disks.new))) }
         ensures missed { IfErr result (λ fault. work.AtMissed fault (Rose (D.misses disks.old) (D.misses disks.new))) }

@@ -1,4 +1,4 @@
-ghost use Rattle.std.specs.Prelude.{◌≡◌, ◌<◌, [], ◌∷◌, ◌+◌, drop, map, true, IfErr, IfOk, IfSome, None, OnOk, Some};
+ghost use Rattle.std.specs.Prelude.{◌≡◌, ◌<◌, [], ◌∷◌, ◌+◌, drop, map, true, IfErr, IfOk, IfSome, None, OnErr, OnOk, Some};
 ghost use Rattle.counter_report.specs.declared.journal.Entry.TheVariants as line;
 ghost use Rattle.name_values.specs.Values.{World};
 ghost use Rattle.hal_outside.specs.Told.{Rose};
@@ -8,10 +8,12 @@ ghost use Rattle.run_model.specs.Plans.{gives};
 ghost use Rattle.run_model.specs.State.{noted};
 ghost use Rattle.valid_copies.specs.Calls.{Follows};
 ghost use Rattle.valid_copies.specs.Faults as work;
+ghost use Rattle.valid_copies.specs.RightCalls.{RightWork};
 ghost use Rattle.valid_copies.specs.Stands.{Stands};
 ghost use Rattle.cluster_core.specs.Disks.{Leaves};
 ghost use Rattle.cluster_core.specs.Faults.{StoppedIn};
-ghost use Rattle.cluster_core.specs.Turns.{IsRight, Rightly, advance_by, advanced_to, decision_in};
+ghost use Rattle.cluster_core.specs.Works.{StandsFor};
+ghost use Rattle.cluster_core.specs.Turns.{IsOfChain, IsRight, Rightly, advance_by, advanced_to, decision_in};
 
 use crate::deciding::decision;
 use crate::finished::Finished;
@@ -38,8 +40,12 @@ impl State {
         ensures rounds { IfOk result (λ finished. IfSome finished (λ it. it.rounds ≡ self.new.plain.round)) }
         ensures stopped { IfErr result (StoppedIn (advance self.old.setup (decision_in self.old) self.old.plain) (D.told disks.old) (D.told disks.new)) }
         ensures right { IfOk result (λ finished. (w : World) → Rightly w self.old.setup.shape (D.shows_damage disks.old) (D.told disks.old) self.old.kept → IsRight w (D.told disks.new) self.new.kept finished) }
+        ensures chain { IsOfChain self.old }
+        ensures still { IfErr result (λ fault. work.AtMissed fault ((w : World) → StandsFor w self.old.kept (D.told disks.old) → StandsFor w self.new.kept (D.told disks.new))) }
+        ensures keeps { OnErr result ((w : World) → StandsFor w self.old.kept (D.told disks.old) → StandsFor w self.new.kept None) }
         ensures same { self.new.setup ≡ self.old.setup }
         ensures failures { self.new.plain.failures ≡ self.old.plain.failures }
+        ensures calls { (w : World) → Stands w self.old.kept.table.copies (D.told disks.old) → RightWork D.Disks w disks.old disks.new (IfErr result (λ fault. work.AtMissed fault ⊥)) }
         ensures disks { Leaves D.Disks self.old.setup.schedule.nodes disks.old disks.new }
         ensures device { IfErr result (λ fault. work.AtDevice fault (Rose (D.faults disks.old) (D.faults disks.new))) }
         ensures missed { IfErr result (λ fault. work.AtMissed fault (Rose (D.misses disks.old) (D.misses disks.new))) }
@@ -75,8 +81,11 @@ impl State {
         ensures rounds { IfOk result (λ finished. IfSome finished (λ it. it.rounds ≡ self.new.plain.round)) }
         ensures stopped { IfErr result (StoppedIn (advance_by self.old.setup (Some end) self.old.plain) (D.told disks.old) (D.told disks.new)) }
         ensures right { IfOk result (λ finished. (w : World) → Rightly w self.old.setup.shape (D.shows_damage disks.old) (D.told disks.old) self.old.kept → IsRight w (D.told disks.new) self.new.kept finished) }
+        ensures still { IfErr result (λ fault. work.AtMissed fault ((w : World) → StandsFor w self.old.kept (D.told disks.old) → StandsFor w self.new.kept (D.told disks.new))) }
+        ensures keeps { OnErr result ((w : World) → StandsFor w self.old.kept (D.told disks.old) → StandsFor w self.new.kept None) }
         ensures same { self.new.setup ≡ self.old.setup }
         ensures failures { self.new.plain.failures ≡ self.old.plain.failures }
+        ensures calls { (w : World) → Stands w self.old.kept.table.copies (D.told disks.old) → RightWork D.Disks w disks.old disks.new (IfErr result (λ fault. work.AtMissed fault ⊥)) }
         ensures disks { Leaves D.Disks self.old.setup.schedule.nodes disks.old disks.new }
         ensures device { IfErr result (λ fault. work.AtDevice fault (Rose (D.faults disks.old) (D.faults disks.new))) }
         ensures missed { IfErr result (λ fault. work.AtMissed fault (Rose (D.misses disks.old) (D.misses disks.new))) }
@@ -131,11 +140,13 @@ impl State {
         ensures forgotten { OnOk result (self.new.kept.values ≡ map (λ _. None) self.old.kept.values) }
         ensures next { OnOk result (self.new.kept.round ≡ self.old.kept.round + 1) }
         ensures stopped { IfErr result (StoppedIn (next_round self.old.setup self.old.plain) (D.told disks.old) (D.told disks.new)) }
+        ensures keeps { OnErr result ((w : World) → StandsFor w self.old.kept (D.told disks.old) → StandsFor w self.new.kept None) }
         ensures same { self.new.setup ≡ self.old.setup }
         ensures failures { self.new.plain.failures ≡ self.old.plain.failures }
+        ensures calls { (w : World) → RightWork D.Disks w disks.old disks.new (IfErr result (λ fault. work.AtMissed fault ⊥)) }
         ensures disks { Leaves D.Disks self.old.setup.schedule.nodes disks.old disks.new }
         ensures device { IfErr result (λ fault. work.AtDevice fault (Rose (D.faults disks.old) (D.faults disks.new))) }
-        ensures missed { IfErr result (λ fault. work.AtMissed fault (Rose (D.misses disks.old) (D.misses disks.new))) }
+        ensures missed { IfErr result (λ fault. work.AtMissed fault ⊥) }
     {
         let round = self.round + 1;
         let tasks = match round_tasks(alloc, &self.shape, round) {

@@ -1,9 +1,9 @@
-ghost use Rattle.std.specs.Prelude.{◌≡◌, ◌<◌, ◌≤◌, IfErr, IfOk, OnErr, OnOk, ℕ, [], ◌∷◌, List, Some, length, slice_get, slice_set};
+ghost use Rattle.std.specs.Prelude.{◌≡◌, ◌<◌, ◌≤◌, IfErr, IfOk, OnErr, OnOk, ℕ, [], ◌∷◌, List, None, Some, length, slice_get, slice_set};
 ghost use Rattle.cluster_core.specs.Disks.{Leaves};
 ghost use Rattle.cluster_core.specs.Faults.{StoppedIn};
 ghost use Rattle.cluster_core.specs.Finishing.{CanFinish, ReadOrStarved, commit_plan, read_plan};
 ghost use Rattle.cluster_core.specs.Outputs.{CanCompute, IsMade, IsRightOutput};
-ghost use Rattle.cluster_core.specs.Works.{CanWork, StandsFor, StaysRight};
+ghost use Rattle.cluster_core.specs.Works.{CallsRight, CanWork, KeepsRight, StandsFor, StaysRight};
 ghost use Rattle.cluster_core.specs.declared.output.Output.{Output as Made};
 ghost use Rattle.counter_report.specs.declared.journal.Entry.TheVariants as line;
 ghost use Rattle.hal_base.specs.Shapes.{IsWellFormed};
@@ -24,6 +24,7 @@ ghost use Rattle.valid_copies.specs.Calls.{Begun, Follows};
 ghost use Rattle.valid_copies.specs.Faults as work;
 ghost use Rattle.valid_copies.specs.Inputs.{names_in};
 ghost use Rattle.valid_copies.specs.Readings.{IsTextOf};
+ghost use Rattle.valid_copies.specs.RightCalls.{RightWork};
 ghost use Rattle.valid_copies.specs.Stands.{Stands};
 
 use crate::output::{Output, output_of};
@@ -61,7 +62,10 @@ impl State {
         ensures acted { OnOk result ((a : Tried) → slice_get self.old.kept.running at ≡ Some a → Follows (finish self.old.setup a self.old.plain) (D.told disks.old) (D.told disks.new) (gives self.new.plain)) }
         ensures stopped { IfErr result (λ fault. (a : Tried) → slice_get self.old.kept.running at ≡ Some a → StoppedIn (finish self.old.setup a self.old.plain) (D.told disks.old) (D.told disks.new) fault) }
         ensures right { OnOk result (StaysRight (F.meaning functions.now) self.old.setup (D.shows_damage disks.old) (D.told disks.old) (D.told disks.new) self.old.kept self.new.kept) }
+        ensures still { IfErr result (λ fault. work.AtMissed fault (StaysRight (F.meaning functions.now) self.old.setup (D.shows_damage disks.old) (D.told disks.old) (D.told disks.new) self.old.kept self.new.kept)) }
+        ensures keeps { OnErr result (KeepsRight (F.meaning functions.now) self.old.setup (D.shows_damage disks.old) (D.told disks.old) self.old.kept self.new.kept) }
         ensures same { self.new.setup ≡ self.old.setup }
+        ensures calls { CallsRight D.Disks (F.meaning functions.now) self.old.setup self.old.kept disks.old disks.new (IfErr result (λ fault. work.AtMissed fault ⊥)) }
         ensures disks { Leaves D.Disks self.old.setup.schedule.nodes disks.old disks.new }
         ensures device { IfErr result (λ fault. work.AtDevice fault (Rose (D.faults disks.old) (D.faults disks.new))) }
         ensures missed { IfErr result (λ fault. work.AtMissed fault (Rose (D.misses disks.old) (D.misses disks.new))) }
@@ -84,7 +88,10 @@ impl State {
         ensures done { OnOk result (Follows (attempt_done self.old.setup attempt.now self.old.plain) (D.told disks.old) (D.told disks.new) (gives self.new.plain)) }
         ensures stopped { IfErr result (StoppedIn (attempt_done self.old.setup attempt.now self.old.plain) (D.told disks.old) (D.told disks.new)) }
         ensures right { OnOk result (StaysRight (F.meaning functions.now) self.old.setup (D.shows_damage disks.old) (D.told disks.old) (D.told disks.new) self.old.kept self.new.kept) }
+        ensures still { IfErr result (λ fault. work.AtMissed fault (StaysRight (F.meaning functions.now) self.old.setup (D.shows_damage disks.old) (D.told disks.old) (D.told disks.new) self.old.kept self.new.kept)) }
+        ensures keeps { OnErr result (KeepsRight (F.meaning functions.now) self.old.setup (D.shows_damage disks.old) (D.told disks.old) self.old.kept self.new.kept) }
         ensures same { self.new.setup ≡ self.old.setup }
+        ensures calls { CallsRight D.Disks (F.meaning functions.now) self.old.setup self.old.kept disks.old disks.new (IfErr result (λ fault. work.AtMissed fault ⊥)) }
         ensures disks { Leaves D.Disks self.old.setup.schedule.nodes disks.old disks.new }
         ensures device { IfErr result (λ fault. work.AtDevice fault (Rose (D.faults disks.old) (D.faults disks.new))) }
         ensures missed { IfErr result (λ fault. work.AtMissed fault (Rose (D.misses disks.old) (D.misses disks.new))) }
@@ -114,7 +121,9 @@ impl State {
         ensures committed { OnOk result (Follows (commit_plan self.old.setup attempt.now read.counts self.old.plain) (D.told disks.old) (D.told disks.new) (gives self.new.plain)) }
         ensures begun { OnErr result (Begun (commit_plan self.old.setup attempt.now read.counts self.old.plain) (D.told disks.old) (D.told disks.new)) }
         ensures right { OnOk result ((w : World) → ((output : Made) → IsMade (F.meaning functions.now) self.old.setup.shape attempt.now.task read.lists.items output → IsRightOutput w self.old.kept.round output) → StandsFor w self.old.kept (D.told disks.old) → StandsFor w self.new.kept (D.told disks.new)) }
+        ensures keeps { OnErr result ((w : World) → ((output : Made) → IsMade (F.meaning functions.now) self.old.setup.shape attempt.now.task read.lists.items output → IsRightOutput w self.old.kept.round output) → StandsFor w self.old.kept (D.told disks.old) → StandsFor w self.new.kept None) }
         ensures same { self.new.setup ≡ self.old.setup }
+        ensures calls { (w : World) → ((output : Made) → IsMade (F.meaning functions.now) self.old.setup.shape attempt.now.task read.lists.items output → IsRightOutput w self.old.kept.round output) → RightWork D.Disks w disks.old disks.new (IfErr result (λ fault. work.AtMissed fault ⊥)) }
         ensures disks { Leaves D.Disks self.old.setup.schedule.nodes disks.old disks.new }
         ensures device { IfErr result (λ fault. work.AtDevice fault (Rose (D.faults disks.old) (D.faults disks.new))) }
         ensures missed { IfErr result (λ fault. work.AtMissed fault ⊥) }
@@ -146,6 +155,7 @@ impl State {
         ensures read { IfOk result (ReadOrStarved self.now attempt.now (D.shows_damage disks.old) (D.told disks.old) (D.told disks.new)) }
         ensures stopped { IfErr result (StoppedIn (read_plan self.now attempt.now) (D.told disks.old) (D.told disks.new)) }
         ensures valid { (w : World) (copies : List Copy) → Stands w copies (D.told disks.old) → Stands w copies (D.told disks.new) }
+        ensures calls { (w : World) → Stands w self.now.kept.table.copies (D.told disks.old) → RightWork D.Disks w disks.old disks.new (IfErr result (λ fault. work.AtMissed fault ⊥)) }
         ensures disks { Leaves D.Disks self.now.setup.schedule.nodes disks.old disks.new }
         ensures device { IfErr result (λ fault. work.AtDevice fault (Rose (D.faults disks.old) (D.faults disks.new))) }
         ensures missed { IfErr result (λ fault. work.AtMissed fault (Rose (D.misses disks.old) (D.misses disks.new))) }
@@ -193,9 +203,11 @@ impl State {
         ensures committed { OnOk result (Follows (commit_plan self.old.setup attempt.now counts self.old.plain) (D.told disks.old) (D.told disks.new) (gives self.new.plain)) }
         ensures begun { OnErr result (Begun (commit_plan self.old.setup attempt.now counts self.old.plain) (D.told disks.old) (D.told disks.new)) }
         ensures valid { OnOk result ((w : World) → IsTextOf w.shape name.now bytes.now (value_of w name.now) → Stands w self.old.kept.table.copies (D.told disks.old) → Stands w self.new.kept.table.copies (D.told disks.new)) }
+        ensures digests { OnErr result ((w : World) → IsTextOf w.shape name.now bytes.now (value_of w name.now) → Stands w self.old.kept.table.copies (D.told disks.old) → Stands w self.new.kept.table.copies None) }
         ensures values { self.new.kept.values ≡ self.old.kept.values }
         ensures round { self.new.kept.round ≡ self.old.kept.round }
         ensures same { self.new.setup ≡ self.old.setup }
+        ensures calls { (w : World) → IsTextOf w.shape name.now bytes.now (value_of w name.now) → RightWork D.Disks w disks.old disks.new (IfErr result (λ fault. work.AtMissed fault ⊥)) }
         ensures disks { Leaves D.Disks self.old.setup.schedule.nodes disks.old disks.new }
         ensures device { IfErr result (λ fault. work.AtDevice fault (Rose (D.faults disks.old) (D.faults disks.new))) }
         ensures missed { IfErr result (λ fault. work.AtMissed fault ⊥) }

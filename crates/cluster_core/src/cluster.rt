@@ -1,12 +1,12 @@
 ghost use Rattle.std.specs.Prelude.{◌≡◌, ◌⊎◌, IfErr, IfOk, IfSome, IsSome, None, OnErr, OnOk, Some};
-ghost use Rattle.cluster_core.specs.Clusters.{CanBegin, IsBegun, IsDeviceOrMemory, IsRightAfter, RanToEnd, RanToFault, Repeats, RunsUntil, answer_in, answer_of, finished_in};
+ghost use Rattle.cluster_core.specs.Clusters.{CanBegin, IsBegun, IsByChain, IsDeviceOrMemory, IsRightAfter, RanToEnd, RanToFault, Repeats, RunsUntil, answer_in, answer_of, finished_in};
 ghost use Rattle.cluster_core.specs.declared.cluster.Answer.TheVariants as answer;
 ghost use Rattle.cluster_core.specs.declared.cluster.Turned.TheVariants as turned;
 ghost use Rattle.cluster_core.specs.Disks.{Leaves};
-ghost use Rattle.cluster_core.specs.Faults.{AtDevice, AtMissed, RefusedIn};
-ghost use Rattle.cluster_core.specs.Loading.{IsOver, WroteTexts, setup_of};
-ghost use Rattle.cluster_core.specs.Turns.{decision_in, turned_to};
-ghost use Rattle.cluster_core.specs.Works.{StandsFor};
+ghost use Rattle.cluster_core.specs.Faults.{AtDevice, AtMissed, AtRefusal, RefusedIn};
+ghost use Rattle.cluster_core.specs.Loading.{IsOver, setup_of};
+ghost use Rattle.cluster_core.specs.Turns.{IsOfChain, decision_in, turned_to};
+ghost use Rattle.cluster_core.specs.Works.{CallsRight, KeepsRight, OverRight, StandsFor, StaysRight};
 ghost use Rattle.hal_outside.specs.Told.{OnTold, Rose};
 ghost use Rattle.name_values.specs.Values.{World};
 ghost use Rattle.plain_job.specs.Fit.{FunctionsFit, TablesFit};
@@ -14,6 +14,7 @@ ghost use Rattle.run_model.specs.Plans.{gives};
 ghost use Rattle.run_model.specs.Runs.{load, loaded};
 ghost use Rattle.run_model.specs.Turns.{turn};
 ghost use Rattle.valid_copies.specs.Calls.{Begun, Follows};
+ghost use Rattle.valid_copies.specs.RightCalls.{RightCalls};
 
 use crate::fault::CoreFault;
 use crate::finished::Finished;
@@ -76,7 +77,7 @@ impl Cluster {
         ensures begun { OnErr result (Begun (load (setup_of shape schedule)) (D.told disks.old) (D.told disks.new)) }
         ensures only { IfErr result IsDeviceOrMemory }
         ensures stands { IfOk result (λ cluster. (w : World) → IsOver shape tables.now schedule.block w → StandsFor w cluster.state.kept (D.told disks.new)) }
-        ensures texts { (w : World) → IsOver shape tables.now schedule.block w → OnTold (WroteTexts w) (D.told disks.old) (D.told disks.new) }
+        ensures texts { (w : World) → IsOver shape tables.now schedule.block w → OnTold (RightCalls w) (D.told disks.old) (D.told disks.new) }
         ensures disks { Leaves D.Disks schedule.nodes disks.old disks.new }
         ensures device { IfErr result (λ fault. AtDevice fault (Rose (D.faults disks.old) (D.faults disks.new))) }
         ensures not_missed { IsSome (D.told disks.old) → D.misses disks.new ≡ D.misses disks.old }
@@ -95,7 +96,8 @@ impl Cluster {
 
     /// One turn: advance, start, act. A fault, or the end of the run, is answered by each later call too; in place of the end
     /// such a call may answer `Memory`, which is no fault of the cluster. Errors: `TaskFailed` where a task failed as often as
-    /// the schedule allows, `NotBuilt` where a read missed, a device's fault, or want of memory. docs/CLUSTER.md, "A turn".
+    /// the schedule allows, `NotBuilt` where a read missed, a device's fault, or want of memory. After each of them the kept
+    /// digests and the values of tests are right, and after the first two the disks hold the copies. docs/CLUSTER.md, "A turn".
     pub fn turn<F: Functions, D: Disks>(
         &mut self,
         alloc: Global,
@@ -107,6 +109,11 @@ impl Cluster {
         ensures rounds { self.old.answered ≡ None → IfOk result (λ it. IfSome (finished_in it) (λ it. it.rounds ≡ self.new.state.plain.round)) }
         ensures refused { self.old.answered ≡ None → IfErr result (RefusedIn (turn self.old.state.setup (decision_in self.old.state) self.old.state.plain) (D.told disks.old) (D.told disks.new) self.new.state.plain) }
         ensures right { self.old.answered ≡ None → IfOk result (λ it. IsRightAfter (F.meaning functions.now) self.old.state (D.shows_damage disks.old) (D.told disks.old) (D.told disks.new) self.new.state.kept (finished_in it)) }
+        ensures texts { self.old.answered ≡ None → D.shows_damage disks.old → OverRight (F.meaning functions.now) self.old.state.setup (D.told disks.old) self.old.state.kept (λ w. OnTold (RightCalls w) (D.told disks.old) (D.told disks.new)) }
+        ensures unmissed { self.old.answered ≡ None → D.sound disks.old → OverRight (F.meaning functions.now) self.old.state.setup (D.told disks.old) self.old.state.kept (λ _. (D.misses disks.new ≡ D.misses disks.old) × IfErr result (λ fault. AtMissed fault ⊥)) }
+        ensures chain { self.old.answered ≡ None → IsOfChain self.old.state }
+        ensures still { self.old.answered ≡ None → IfErr result (λ fault. AtRefusal fault (StaysRight (F.meaning functions.now) self.old.state.setup (D.shows_damage disks.old) (D.told disks.old) (D.told disks.new) self.old.state.kept self.new.state.kept)) }
+        ensures keeps { self.old.answered ≡ None → OnErr result (KeepsRight (F.meaning functions.now) self.old.state.setup (D.shows_damage disks.old) (D.told disks.old) self.old.state.kept self.new.state.kept) }
         ensures answers { self.old.answered ≡ None → self.new.answered ≡ answer_in result }
         ensures kept { IfSome self.old.answered (λ answer. Repeats turned.Finished answer result × (self.new ≡ self.old) × (disks.new ≡ disks.old)) }
         ensures running { RunsUntil self.new.answered self.new.state }
@@ -137,6 +144,11 @@ impl Cluster {
         ensures finished { self.old.answered ≡ None → IfOk result (RanToEnd self.old.state (D.told disks.old) self.new.state (D.told disks.new)) }
         ensures refused { self.old.answered ≡ None → IfErr result (RanToFault self.old.state (D.told disks.old) self.new.state (D.told disks.new)) }
         ensures right { self.old.answered ≡ None → IfOk result (λ it. IsRightAfter (F.meaning functions.now) self.old.state (D.shows_damage disks.old) (D.told disks.old) (D.told disks.new) self.new.state.kept (Some it)) }
+        ensures texts { self.old.answered ≡ None → D.shows_damage disks.old → OverRight (F.meaning functions.now) self.old.state.setup (D.told disks.old) self.old.state.kept (λ w. OnTold (RightCalls w) (D.told disks.old) (D.told disks.new)) }
+        ensures unmissed { self.old.answered ≡ None → D.sound disks.old → OverRight (F.meaning functions.now) self.old.state.setup (D.told disks.old) self.old.state.kept (λ _. (D.misses disks.new ≡ D.misses disks.old) × IfErr result (λ fault. AtMissed fault ⊥)) }
+        ensures by_chain { self.old.answered ≡ None → IsByChain (F.meaning functions.now) self.old.state (D.shows_damage disks.old) (D.told disks.old) (D.told disks.new) self.new.state.plain result }
+        ensures still { self.old.answered ≡ None → IfErr result (λ fault. AtRefusal fault (StaysRight (F.meaning functions.now) self.old.state.setup (D.shows_damage disks.old) (D.told disks.old) (D.told disks.new) self.old.state.kept self.new.state.kept)) }
+        ensures keeps { self.old.answered ≡ None → OnErr result (KeepsRight (F.meaning functions.now) self.old.state.setup (D.shows_damage disks.old) (D.told disks.old) self.old.state.kept self.new.state.kept) }
         ensures answers { self.old.answered ≡ None → self.new.answered ≡ Some (answer_of result) }
         ensures kept { IfSome self.old.answered (λ answer. Repeats (λ it. it) answer result × (self.new ≡ self.old) × (disks.new ≡ disks.old)) }
         ensures same { self.new.state.setup ≡ self.old.state.setup }
@@ -170,9 +182,13 @@ impl Cluster {
         ensures rounds { IfOk result (λ it. IfSome (finished_in it) (λ it. it.rounds ≡ self.new.state.plain.round)) }
         ensures refused { IfErr result (RefusedIn (turn self.old.state.setup (decision_in self.old.state) self.old.state.plain) (D.told disks.old) (D.told disks.new) self.new.state.plain) }
         ensures right { IfOk result (λ it. IsRightAfter (F.meaning functions.now) self.old.state (D.shows_damage disks.old) (D.told disks.old) (D.told disks.new) self.new.state.kept (finished_in it)) }
+        ensures chain { IsOfChain self.old.state }
+        ensures still { IfErr result (λ fault. AtRefusal fault (StaysRight (F.meaning functions.now) self.old.state.setup (D.shows_damage disks.old) (D.told disks.old) (D.told disks.new) self.old.state.kept self.new.state.kept)) }
+        ensures keeps { OnErr result (KeepsRight (F.meaning functions.now) self.old.state.setup (D.shows_damage disks.old) (D.told disks.old) self.old.state.kept self.new.state.kept) }
         ensures answers { self.new.answered ≡ answer_in result }
         ensures running { RunsUntil self.new.answered self.new.state }
         ensures same { self.new.state.setup ≡ self.old.state.setup }
+        ensures calls { CallsRight D.Disks (F.meaning functions.now) self.old.state.setup self.old.state.kept disks.old disks.new (IfErr result (λ fault. AtMissed fault ⊥)) }
         ensures disks { Leaves D.Disks self.old.state.setup.schedule.nodes disks.old disks.new }
         ensures device { IfErr result (λ fault. AtDevice fault (Rose (D.faults disks.old) (D.faults disks.new))) }
         ensures missed { IfErr result (λ fault. AtMissed fault (Rose (D.misses disks.old) (D.misses disks.new))) }
@@ -219,8 +235,12 @@ impl Cluster {
         ensures finished { IfOk result (RanToEnd self.old.state (D.told disks.old) self.new.state (D.told disks.new)) }
         ensures refused { IfErr result (RanToFault self.old.state (D.told disks.old) self.new.state (D.told disks.new)) }
         ensures right { IfOk result (λ it. IsRightAfter (F.meaning functions.now) self.old.state (D.shows_damage disks.old) (D.told disks.old) (D.told disks.new) self.new.state.kept (Some it)) }
+        ensures by_chain { IsByChain (F.meaning functions.now) self.old.state (D.shows_damage disks.old) (D.told disks.old) (D.told disks.new) self.new.state.plain result }
+        ensures still { IfErr result (λ fault. AtRefusal fault (StaysRight (F.meaning functions.now) self.old.state.setup (D.shows_damage disks.old) (D.told disks.old) (D.told disks.new) self.old.state.kept self.new.state.kept)) }
+        ensures keeps { OnErr result (KeepsRight (F.meaning functions.now) self.old.state.setup (D.shows_damage disks.old) (D.told disks.old) self.old.state.kept self.new.state.kept) }
         ensures answers { self.new.answered ≡ Some (answer_of result) }
         ensures same { self.new.state.setup ≡ self.old.state.setup }
+        ensures calls { CallsRight D.Disks (F.meaning functions.now) self.old.state.setup self.old.state.kept disks.old disks.new (IfErr result (λ fault. AtMissed fault ⊥)) }
         ensures disks { Leaves D.Disks self.old.state.setup.schedule.nodes disks.old disks.new }
         ensures device { IfErr result (λ fault. AtDevice fault (Rose (D.faults disks.old) (D.faults disks.new))) }
         ensures missed { IfErr result (λ fault. AtMissed fault (Rose (D.misses disks.old) (D.misses disks.new))) }

@@ -1,6 +1,7 @@
 ghost use Rattle.std.specs.Prelude.{◌≡◌, ◌≤◌, IfOk};
 ghost use Rattle.run_model.specs.Advance.{is_decided};
 ghost use Rattle.cluster_core.specs.Deciding.{decision_of, known_values, word_of};
+ghost use Rattle.cluster_core.specs.Turns.{IsOfChain};
 
 use crate::state::State;
 use crate::tables::parts_are_up;
@@ -13,7 +14,8 @@ use std::alloc::Global;
 impl State {
     /// Whether each part of the last step lies on an up node and, from round 2 on, the value of each test is known.
     pub fn is_decided(&self) -> bool
-        ensures { result ≡ is_decided self.now.setup self.now.plain }
+        ensures decided { result ≡ is_decided self.now.setup self.now.plain }
+        ensures chain { IsOfChain self.now }
     {
         parts_are_up(&self.table, &self.shape, self.round)
             && (self.round < 2 || all_known(&self.values))

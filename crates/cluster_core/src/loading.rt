@@ -2,7 +2,7 @@ ghost use Rattle.std.specs.Prelude.{◌≡◌, ◌<◌, ◌*◌, ◌≤◌, [], 
 ghost use Rattle.std.specs.List.{AllByRecursion};
 ghost use Rattle.cluster_core.specs.Disks.{Leaves};
 ghost use Rattle.cluster_core.specs.Filling.{AddedSome, CanLoad, Filled, FilledSome, HasItsText, copies_of, empty_table, load_calls, load_files, table_files};
-ghost use Rattle.cluster_core.specs.Loading.{IsLoaded, IsOver, WroteTexts, setup_of};
+ghost use Rattle.cluster_core.specs.Loading.{IsLoaded, IsOver, setup_of};
 ghost use Rattle.hal_outside.specs.DiskCalls as call;
 ghost use Rattle.hal_outside.specs.Told.{OnTold, Rose};
 ghost use Rattle.loop_scheduler.specs.Views.{IsCounted};
@@ -15,6 +15,7 @@ ghost use Rattle.run_model.specs.Runs.{load, loaded};
 ghost use Rattle.schedule_text.specs.Schedules.{KeepsLimits};
 ghost use Rattle.valid_copies.specs.Calls.{Added, Begun, Follows};
 ghost use Rattle.valid_copies.specs.Faults.{AtDevice, AtMissed};
+ghost use Rattle.valid_copies.specs.RightCalls.{RightCalls};
 ghost use Rattle.valid_copies.specs.Stands.{Stands};
 ghost use Rattle.valid_copies.specs.Writes.{table_with};
 
@@ -52,7 +53,7 @@ pub fn fill<D: Disks>(
     ensures begun { OnErr result (Begun (load (setup_of shape.now schedule.now)) (D.told disks.old) (D.told disks.new)) }
     ensures table { IfOk result (IsLoaded (setup_of shape.now schedule.now)) }
     ensures stands { IfOk result (λ table. (w : World) → IsOver shape.now tables.now schedule.now.block w → Stands w table.copies (D.told disks.new)) }
-    ensures texts { (w : World) → IsOver shape.now tables.now schedule.now.block w → OnTold (WroteTexts w) (D.told disks.old) (D.told disks.new) }
+    ensures texts { (w : World) → IsOver shape.now tables.now schedule.now.block w → OnTold (RightCalls w) (D.told disks.old) (D.told disks.new) }
     ensures disks { Leaves D.Disks schedule.now.nodes disks.old disks.new }
     ensures device { IfErr result (λ fault. AtDevice fault (Rose (D.faults disks.old) (D.faults disks.new))) }
     ensures missed { IfErr result (λ fault. AtMissed fault ⊥) }

@@ -7,6 +7,7 @@ ghost use Rattle.run_model.specs.Tasks.{last_outs};
 ghost use Rattle.valid_copies.specs.Calls.{PutStays};
 ghost use Rattle.valid_copies.specs.Faults.{AtDevice, AtMissed};
 ghost use Rattle.valid_copies.specs.Readings.{IsFile};
+ghost use Rattle.valid_copies.specs.RightCalls.{RightWork};
 ghost use Rattle.valid_copies.specs.Stands.{Stands};
 ghost use Rattle.cluster_core.specs.Parts.{AreValuesOf, IsValueOf, PartFollows, PartStopped, PartsFollow, PartsStopped};
 
@@ -36,6 +37,7 @@ pub fn read_part<D: Disks>(
     ensures misses_stay { D.misses disks.old ≤ D.misses disks.new }
     ensures damage_shown { D.shows_damage disks.old → D.shows_damage disks.new }
     ensures soundness_kept { D.sound disks.old → D.sound disks.new }
+    ensures calls { (w : World) → Stands w table.now.copies (D.told disks.old) → RightWork D.Disks w disks.old disks.new (IfErr result (λ fault. AtMissed fault ⊥)) }
     ensures device { IfErr result (λ fault. AtDevice fault (Rose (D.faults disks.old) (D.faults disks.new))) }
     ensures missed { IfErr result (λ fault. AtMissed fault (Rose (D.misses disks.old) (D.misses disks.new))) }
 {
@@ -74,6 +76,7 @@ pub fn read_parts<D: Disks>(
     ensures misses_stay { D.misses disks.old ≤ D.misses disks.new }
     ensures damage_shown { D.shows_damage disks.old → D.shows_damage disks.new }
     ensures soundness_kept { D.sound disks.old → D.sound disks.new }
+    ensures calls { (w : World) → Stands w table.now.copies (D.told disks.old) → RightWork D.Disks w disks.old disks.new (IfErr result (λ fault. AtMissed fault ⊥)) }
     ensures device { IfErr result (λ fault. AtDevice fault (Rose (D.faults disks.old) (D.faults disks.new))) }
     ensures missed { IfErr result (λ fault. AtMissed fault (Rose (D.misses disks.old) (D.misses disks.new))) }
 {

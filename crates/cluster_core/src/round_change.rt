@@ -7,6 +7,7 @@ ghost use Rattle.run_model.specs.State.{PlainCluster, with_copies};
 ghost use Rattle.run_model.specs.Tasks.{tasks_of_round};
 ghost use Rattle.valid_copies.specs.Calls.{Begun, Follows};
 ghost use Rattle.valid_copies.specs.Faults as work;
+ghost use Rattle.valid_copies.specs.RightCalls.{RightWork};
 ghost use Rattle.valid_copies.specs.Stands.{Stands};
 ghost use Rattle.cluster_core.specs.Disks.{Leaves};
 ghost use Rattle.cluster_core.specs.RoundChange.{dropped, entered, lines_of};
@@ -48,10 +49,12 @@ impl State {
         ensures stopped { OnErr result ((c : PlainCluster) → c.round ≡ round → c.copies ≡ self.old.plain.copies → Begun (clear self.old.setup self.old.plain.up c) (D.told disks.old) (D.told disks.new)) }
         ensures others { OnOk result (self.new.plain ≡ with_copies self.new.plain.copies self.old.plain) }
         ensures valid { OnOk result ((w : World) → Stands w self.old.kept.table.copies (D.told disks.old) → Stands w self.new.kept.table.copies (D.told disks.new)) }
+        ensures table_kept { OnErr result (self.new.kept.table ≡ self.old.kept.table) }
         ensures same { self.new.setup ≡ self.old.setup }
         ensures failures { self.new.plain.failures ≡ self.old.plain.failures }
         ensures values { self.new.kept.values ≡ self.old.kept.values }
         ensures round { self.new.kept.round ≡ self.old.kept.round }
+        ensures calls { (w : World) → RightWork D.Disks w disks.old disks.new (IfErr result (λ fault. work.AtMissed fault ⊥)) }
         ensures disks { Leaves D.Disks self.old.setup.schedule.nodes disks.old disks.new }
         ensures device { IfErr result (λ fault. work.AtDevice fault (Rose (D.faults disks.old) (D.faults disks.new))) }
         ensures missed { IfErr result (λ fault. work.AtMissed fault ⊥) }
@@ -76,6 +79,7 @@ impl State {
         requires tasks { tasks ≡ tasks_of_round self.old.setup.shape (self.old.plain.round + 1) }
         requires few { self.old.plain.round < 4294967295 }
         ensures entered { OnOk result (self.new.plain ≡ entered self.old.plain) }
+        ensures kept { OnErr result (self.new.kept ≡ self.old.kept) }
         ensures same { self.new.setup ≡ self.old.setup }
         ensures failures { self.new.plain.failures ≡ self.old.plain.failures }
         ensures table { self.new.kept.table ≡ self.old.kept.table }

@@ -1,4 +1,4 @@
-ghost use Rattle.std.specs.Prelude.{◌≡◌, ◌<◌, [], IfErr, IfOk, IfSome, IsSome, List, OnOk};
+ghost use Rattle.std.specs.Prelude.{◌≡◌, ◌<◌, [], IfErr, IfOk, IfSome, IsSome, List, OnErr, OnOk};
 ghost use Rattle.hal_base.specs.declared.record.Record.{Record as Row};
 ghost use Rattle.hal_outside.specs.Told.{Rose};
 ghost use Rattle.node_names.specs.declared.task.Task.{Task as Wanted};
@@ -11,9 +11,9 @@ ghost use Rattle.run_model.specs.Turns.{turn};
 ghost use Rattle.task_values.specs.Worlds.{WorldFits};
 ghost use Rattle.valid_copies.specs.Calls.{Follows};
 ghost use Rattle.cluster_core.specs.Disks.{Leaves};
-ghost use Rattle.cluster_core.specs.Faults.{AtDevice, AtMissed, RefusedIn};
-ghost use Rattle.cluster_core.specs.Turns.{IsRight, IsRunning, decision_in, turned_to};
-ghost use Rattle.cluster_core.specs.Works.{StandsFor, StaysRight, world_of};
+ghost use Rattle.cluster_core.specs.Faults.{AtDevice, AtMissed, AtRefusal, RefusedIn};
+ghost use Rattle.cluster_core.specs.Turns.{IsOfChain, IsRight, IsRunning, decision_in, turned_to};
+ghost use Rattle.cluster_core.specs.Works.{CallsRight, KeepsRight, StandsFor, StaysRight, world_of};
 
 use crate::fault::CoreFault;
 use crate::finished::Finished;
@@ -37,7 +37,11 @@ impl State {
         ensures refused { IfErr result (RefusedIn (turn self.old.setup (decision_in self.old) self.old.plain) (D.told disks.old) (D.told disks.new) self.new.plain) }
         ensures running { OnOk result (IsRunning self.new.setup self.new.plain) }
         ensures right { IfOk result (λ finished. (tables : List (List Row)) → WorldFits (world_of (F.meaning functions.now) self.old.setup tables) → D.shows_damage disks.old → IsSome (D.told disks.old) → StandsFor (world_of (F.meaning functions.now) self.old.setup tables) self.old.kept (D.told disks.old) → IsRight (world_of (F.meaning functions.now) self.old.setup tables) (D.told disks.new) self.new.kept finished) }
+        ensures chain { IsOfChain self.old }
+        ensures still { IfErr result (λ fault. AtRefusal fault (StaysRight (F.meaning functions.now) self.old.setup (D.shows_damage disks.old) (D.told disks.old) (D.told disks.new) self.old.kept self.new.kept)) }
+        ensures keeps { OnErr result (KeepsRight (F.meaning functions.now) self.old.setup (D.shows_damage disks.old) (D.told disks.old) self.old.kept self.new.kept) }
         ensures same { self.new.setup ≡ self.old.setup }
+        ensures calls { CallsRight D.Disks (F.meaning functions.now) self.old.setup self.old.kept disks.old disks.new (IfErr result (λ fault. AtMissed fault ⊥)) }
         ensures disks { Leaves D.Disks self.old.setup.schedule.nodes disks.old disks.new }
         ensures device { IfErr result (λ fault. AtDevice fault (Rose (D.faults disks.old) (D.faults disks.new))) }
         ensures missed { IfErr result (λ fault. AtMissed fault (Rose (D.misses disks.old) (D.misses disks.new))) }
@@ -66,7 +70,10 @@ impl State {
         ensures acted { OnOk result (Follows (act self.old.setup (start self.old.setup self.old.plain)) (D.told disks.old) (D.told disks.new) (gives self.new.plain)) }
         ensures refused { IfErr result (RefusedIn (act self.old.setup (start self.old.setup self.old.plain)) (D.told disks.old) (D.told disks.new) self.new.plain) }
         ensures right { OnOk result (StaysRight (F.meaning functions.now) self.old.setup (D.shows_damage disks.old) (D.told disks.old) (D.told disks.new) self.old.kept self.new.kept) }
+        ensures still { IfErr result (λ fault. AtRefusal fault (StaysRight (F.meaning functions.now) self.old.setup (D.shows_damage disks.old) (D.told disks.old) (D.told disks.new) self.old.kept self.new.kept)) }
+        ensures keeps { OnErr result (KeepsRight (F.meaning functions.now) self.old.setup (D.shows_damage disks.old) (D.told disks.old) self.old.kept self.new.kept) }
         ensures same { self.new.setup ≡ self.old.setup }
+        ensures calls { CallsRight D.Disks (F.meaning functions.now) self.old.setup self.old.kept disks.old disks.new (IfErr result (λ fault. AtMissed fault ⊥)) }
         ensures disks { Leaves D.Disks self.old.setup.schedule.nodes disks.old disks.new }
         ensures device { IfErr result (λ fault. AtDevice fault (Rose (D.faults disks.old) (D.faults disks.new))) }
         ensures missed { IfErr result (λ fault. AtMissed fault (Rose (D.misses disks.old) (D.misses disks.new))) }

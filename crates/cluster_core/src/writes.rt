@@ -1,9 +1,10 @@
-ghost use Rattle.std.specs.Prelude.{◌≡◌, ◌≤◌, ◌<◌, [], ◌∷◌, IfErr, OnErr, OnOk};
+ghost use Rattle.std.specs.Prelude.{◌≡◌, ◌≤◌, ◌<◌, [], ◌∷◌, IfErr, None, OnErr, OnOk};
 ghost use Rattle.hal_outside.specs.Told.{Rose};
 ghost use Rattle.name_values.specs.Values.{World, value_of};
 ghost use Rattle.run_model.specs.Attempts.{made_by};
 ghost use Rattle.valid_copies.specs.Faults as work;
 ghost use Rattle.valid_copies.specs.Readings.{IsTextOf};
+ghost use Rattle.valid_copies.specs.RightCalls.{RightWork};
 ghost use Rattle.valid_copies.specs.Stands.{Stands};
 ghost use Rattle.cluster_core.specs.Disks.{Leaves};
 ghost use Rattle.cluster_core.specs.Finishing.{BeganToWrite, CanFinish, WroteAll, commit_plan, goes_further};
@@ -32,9 +33,11 @@ impl State {
         ensures written { OnOk result (WroteAll self.old.setup attempt.now self.old.plain self.new.plain (D.told disks.old) (D.told disks.new)) }
         ensures begun { OnErr result (BeganToWrite self.old.setup attempt.now self.old.plain (D.told disks.old) (D.told disks.new)) }
         ensures valid { OnOk result ((w : World) → IsTextOf w.shape name.now bytes.now (value_of w name.now) → Stands w self.old.kept.table.copies (D.told disks.old) → Stands w self.new.kept.table.copies (D.told disks.new)) }
+        ensures digests { OnErr result ((w : World) → IsTextOf w.shape name.now bytes.now (value_of w name.now) → Stands w self.old.kept.table.copies (D.told disks.old) → Stands w self.new.kept.table.copies None) }
         ensures values { self.new.kept.values ≡ self.old.kept.values }
         ensures round { self.new.kept.round ≡ self.old.kept.round }
         ensures same { self.new.setup ≡ self.old.setup }
+        ensures calls { (w : World) → IsTextOf w.shape name.now bytes.now (value_of w name.now) → RightWork D.Disks w disks.old disks.new (IfErr result (λ fault. work.AtMissed fault ⊥)) }
         ensures disks { Leaves D.Disks self.old.setup.schedule.nodes disks.old disks.new }
         ensures device { IfErr result (λ fault. work.AtDevice fault (Rose (D.faults disks.old) (D.faults disks.new))) }
         ensures missed { IfErr result (λ fault. work.AtMissed fault ⊥) }

@@ -2,6 +2,7 @@ use Rattle.std.proofs.Common.{refl}
 use Rattle.hal_base.specs.declared.record.Record.{Record}
 use Rattle.std.proofs.Common.{List}
 use Rattle.cluster_core.proofs.PartReads.{none_left, none_read, part_read, part_stopped, part_value}
+use Rattle.valid_copies.proofs.Rightly.{works_none}
 use Rattle.cluster_core.proofs.parts.read_part.Goals as goal
 
 pub returns-in_default-clause-read : goal.returns-in_default-clause-read
@@ -24,3 +25,6 @@ returns-in-Ok-None-clause-read g c =
 
 pub returns-in-Err-clause-stopped : goal.returns-in-Err-clause-stopped
 returns-in-Err-clause-stopped g c = part_stopped (record { shape = c.args.shape.now; table = c.args.table.now; own = c.in-Some.file.node; part = 0 }) c.args.name.now c.in-Some.file.digest c.in-Some.ensures.lowest.lowest c.in-Some.ensures.lowest.kept (g.D.Disks.told c.args.disks.now) (g.D.Disks.told c.read_need.new.disks) c.in-Err.fault c.in-Err.ensures.stopped
+
+pub returns-in_default-clause-calls : goal.returns-in_default-clause-calls
+returns-in_default-clause-calls g c = λ w s. works_none g.D.Disks w c.args.disks.now (Unit {0}) tt

@@ -4,6 +4,7 @@ use Rattle.node_names.specs.declared.name.Name.TheVariants.{Out}
 use Rattle.cluster_core.specs.Parts.{IsValueOf, PartFollows, PartStopped}
 use Rattle.valid_copies.proofs.Coming.{puts_more}
 use Rattle.cluster_core.proofs.PartLoops.{parts_memory, parts_more, parts_starve, parts_stop}
+use Rattle.valid_copies.proofs.Rightly.{works_more}
 use Rattle.cluster_core.proofs.parts.read_parts.Goals as goal
 
 pub returns-in-Err-push-clause-stopped : goal.returns-in-Err-push-clause-stopped
@@ -30,5 +31,15 @@ parts-preserved g c =
       faults = omega (arith, c.parts.invariant.faults, c.in-Ok-Some.ensures.faults_stay);
       misses = omega (arith, c.parts.invariant.misses, c.in-Ok-Some.ensures.misses_stay);
       puts = puts_more (g.D.Disks.told c.args.disks.now) (g.D.Disks.told c.parts.disks) (g.D.Disks.told c.read_part.new.disks) c.parts.invariant.puts c.in-Ok-Some.ensures.puts_stay;
+      right = λ w s. works_more g.D.Disks w c.args.disks.now c.parts.disks c.read_part.new.disks _ _ (c.parts.invariant.right w s) (c.in-Ok-Some.ensures.calls w (c.parts.invariant.so_far.stands w c.args.table.now.copies s));
       soundness = λ s. c.in-Ok-Some.ensures.soundness_kept (c.parts.invariant.soundness s);
     }
+
+pub returns-in-Err-push-clause-calls : goal.returns-in-Err-push-clause-calls
+returns-in-Err-push-clause-calls g c = λ w s. works_more g.D.Disks w c.args.disks.now c.parts.disks c.read_part.new.disks _ _ (c.parts.invariant.right w s) (c.in-Ok-Some.ensures.calls w (c.parts.invariant.so_far.stands w c.args.table.now.copies s))
+
+pub returns-in-Ok-None-clause-calls : goal.returns-in-Ok-None-clause-calls
+returns-in-Ok-None-clause-calls g c = λ w s. works_more g.D.Disks w c.args.disks.now c.parts.disks c.read_part.new.disks _ _ (c.parts.invariant.right w s) (c.in-Ok-None.ensures.calls w (c.parts.invariant.so_far.stands w c.args.table.now.copies s))
+
+pub returns-in-Err-clause-calls : goal.returns-in-Err-clause-calls
+returns-in-Err-clause-calls g c = λ w s. works_more g.D.Disks w c.args.disks.now c.parts.disks c.read_part.new.disks _ _ (c.parts.invariant.right w s) (c.in-Err.ensures.calls w (c.parts.invariant.so_far.stands w c.args.table.now.copies s))

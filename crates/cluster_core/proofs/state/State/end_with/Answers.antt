@@ -11,6 +11,10 @@ use Rattle.cluster_core.proofs.Rightness.{decided_tells, end_right}
 use Rattle.cluster_core.proofs.Inside.{kept_in, plain_in, setup_in}
 use Rattle.cluster_core.specs.Turns.{Rightly, decision_in, parts_read}
 use Rattle.cluster_core.proofs.Onward.{begins_ending, ends_with, goes_past, stops_ending}
+use Rattle.name_values.specs.Values.{World}
+use Rattle.valid_copies.specs.RightCalls.{RightWork}
+use Rattle.valid_copies.specs.Stands.{Stands}
+use Rattle.valid_copies.specs.Faults as work
 use Rattle.cluster_core.proofs.state.State.end_with.Goals as goal
 
 pub returns-in-Ok-clause-read : goal.returns-in-Ok-clause-read
@@ -36,3 +40,15 @@ returns-in-Ok-clause-right g c = λ v right.
     end_right v (setup_in c.self.inside) (g.D.Disks.shows_damage c.args.disks.now) (g.D.Disks.told c.args.disks.now) (g.D.Disks.told c.read_parts.new.disks) (kept_in c.self.inside) c.note_end.new.self.kept (record { parts = c.in-Ok-Some.parts; rounds = c.self.inside.round; end = c.args.end }) r (λ copies stands. c.in-Ok-Some.ensures.valid v copies stands)
     (subst (Tells v c.self.inside.round) ends tells) time.begun refl parts
     (c.in-Ok.ensures.table ∙ ap (λ (s : Seen). s.kept.table) (sym c.self.view_is)) (c.in-Ok.ensures.values ∙ ap (λ (s : Seen). s.kept.values) (sym c.self.view_is)) (c.in-Ok.ensures.round ∙ ap (λ (s : Seen). s.kept.round) (sym c.self.view_is))
+
+pub returns-in-Ok-clause-calls : goal.returns-in-Ok-clause-calls
+returns-in-Ok-clause-calls g c = subst (λ (s : Seen). (w : World) → Stands w s.kept.table.copies (g.D.Disks.told c.args.disks.now) → RightWork g.D.Disks w c.args.disks.now c.read_parts.new.disks (Unit {0})) c.self.view_is c.in-Ok-Some.ensures.calls
+
+pub returns-in-Err-note_end-clause-calls : goal.returns-in-Err-note_end-clause-calls
+returns-in-Err-note_end-clause-calls g c = subst (λ (s : Seen). (w : World) → Stands w s.kept.table.copies (g.D.Disks.told c.args.disks.now) → RightWork g.D.Disks w c.args.disks.now c.read_parts.new.disks (Unit {0})) c.self.view_is c.in-Ok-Some.ensures.calls
+
+pub returns-in-Ok-None-clause-calls : goal.returns-in-Ok-None-clause-calls
+returns-in-Ok-None-clause-calls g c = subst (λ (s : Seen). (w : World) → Stands w s.kept.table.copies (g.D.Disks.told c.args.disks.now) → RightWork g.D.Disks w c.args.disks.now c.read_parts.new.disks (Unit {0})) c.self.view_is c.in-Ok-None.ensures.calls
+
+pub returns-in-Err-clause-calls : goal.returns-in-Err-clause-calls
+returns-in-Err-clause-calls g c = subst (λ (s : Seen). (w : World) → Stands w s.kept.table.copies (g.D.Disks.told c.args.disks.now) → RightWork g.D.Disks w c.args.disks.now c.read_parts.new.disks (work.AtMissed c.in-Err.fault ⊥)) c.self.view_is c.in-Err.ensures.calls

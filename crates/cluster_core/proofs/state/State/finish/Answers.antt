@@ -1,10 +1,16 @@
-use Rattle.std.proofs.Common.{sym, subst}
+use Rattle.std.proofs.Common.{None, sym, subst}
 use Rattle.cluster_core.specs.States.{Seen}
 use Rattle.cluster_core.specs.Works.{CanWork}
 use Rattle.cluster_core.proofs.Inside.{kept_in, plain_in, setup_in}
 use Rattle.std.proofs.lemmas.Result.{on_ok_weaker}
+use Rattle.cluster_core.proofs.Refused.{on_missed_weaker}
 use Rattle.cluster_core.proofs.StaysRight.{stays_out}
 use Rattle.cluster_core.proofs.Done.{can_finish, in_got, stopped_out}
+use Rattle.std.proofs.Common.{IfErr, refl}
+use Rattle.cluster_core.specs.Works.{CallsRight}
+use Rattle.valid_copies.specs.Faults as work
+use Rattle.cluster_core.proofs.RightTurns.{same_calls}
+use Rattle.std.proofs.lemmas.Result.{on_err_weaker}
 use Rattle.cluster_core.proofs.state.State.finish.Goals as goal
 
 pub finish_attempt-requires-clause-can : goal.finish_attempt-requires-clause-can
@@ -24,3 +30,16 @@ finish_attempt-requires-clause-now g c =
 pub returns-clause-right : goal.returns-clause-right
 returns-clause-right g c =
     rw (sym c.self.view_is) (on_ok_weaker c.finish_attempt.result (stays_out (g.F.Functions.meaning c.args.functions.now) (setup_in c.self.inside) (g.D.Disks.shows_damage c.args.disks.now) (kept_in c.self.inside) c.finish_attempt.new.self.kept c.take_out-attempt.new.running.items (g.D.Disks.told c.args.disks.now) (g.D.Disks.told c.finish_attempt.new.disks)) c.finish_attempt.ensures.right)
+
+pub returns-clause-calls : goal.returns-clause-calls
+returns-clause-calls g c =
+    subst (λ (s : Seen). CallsRight g.D.Disks (g.F.Functions.meaning c.args.functions.now) s.setup s.kept c.args.disks.now c.finish_attempt.new.disks (IfErr c.finish_attempt.result (λ fault. work.AtMissed fault ⊥))) c.self.view_is
+    (same_calls g.D.Disks (g.F.Functions.meaning c.args.functions.now) (setup_in c.self.inside) (kept_in c.self.inside) (record (kept_in c.self.inside) { running = c.take_out-attempt.new.running.items }) c.args.disks.now c.finish_attempt.new.disks _ refl refl refl c.finish_attempt.ensures.calls)
+
+pub returns-clause-still : goal.returns-clause-still
+returns-clause-still g c =
+    rw (sym c.self.view_is) (on_missed_weaker c.finish_attempt.result (stays_out (g.F.Functions.meaning c.args.functions.now) (setup_in c.self.inside) (g.D.Disks.shows_damage c.args.disks.now) (kept_in c.self.inside) c.finish_attempt.new.self.kept c.take_out-attempt.new.running.items (g.D.Disks.told c.args.disks.now) (g.D.Disks.told c.finish_attempt.new.disks)) c.finish_attempt.ensures.still)
+
+pub returns-clause-keeps : goal.returns-clause-keeps
+returns-clause-keeps g c =
+    rw (sym c.self.view_is) (on_err_weaker c.finish_attempt.result (stays_out (g.F.Functions.meaning c.args.functions.now) (setup_in c.self.inside) (g.D.Disks.shows_damage c.args.disks.now) (kept_in c.self.inside) c.finish_attempt.new.self.kept c.take_out-attempt.new.running.items (g.D.Disks.told c.args.disks.now) None) c.finish_attempt.ensures.keeps)

@@ -1,4 +1,4 @@
-use Rattle.std.proofs.Common.{sym, subst}
+use Rattle.std.proofs.Common.{None, sym, subst}
 use Rattle.cluster_core.specs.Finishing.{desk_of}
 use Rattle.cluster_core.specs.Outputs.{CanCompute}
 use Rattle.cluster_core.proofs.Computing.{can_compute}
@@ -6,6 +6,8 @@ use Rattle.cluster_core.proofs.Done.{read_and_begun, read_and_committed, reads_s
 use Rattle.std.proofs.lemmas.Result.{on_ok_weaker}
 use Rattle.cluster_core.proofs.ReadRight.{read_right}
 use Rattle.cluster_core.proofs.Left.{leaves_more}
+use Rattle.cluster_core.proofs.RightTurns.{attempt_calls, read_calls}
+use Rattle.std.proofs.lemmas.Result.{on_err_weaker}
 use Rattle.cluster_core.proofs.state.State.finish_attempt.Goals as goal
 
 pub complete-requires-clause-inputs : goal.complete-requires-clause-inputs
@@ -43,3 +45,22 @@ pub returns-in-Ok-Some-clause-right : goal.returns-in-Ok-Some-clause-right
 returns-in-Ok-Some-clause-right g c =
     let read = rw c.in-Ok-Some.field-0-is at c.in-Ok-Some.ensures.read in
     on_ok_weaker c.complete.result (λ right. read_right (g.F.Functions.meaning c.args.functions.now) c.args.self.now c.args.attempt.now (g.D.Disks.shows_damage c.args.disks.now) (g.D.Disks.told c.args.disks.now) (g.D.Disks.told c.read_needs.new.disks) (g.D.Disks.told c.complete.new.disks) c.in-Ok-Some.read.counts c.in-Ok-Some.read.lists.items c.complete.new.self.kept c.requires.can c.requires.now read c.read_needs.ensures.valid right) c.complete.ensures.right
+
+pub returns-in-Ok-Some-clause-calls : goal.returns-in-Ok-Some-clause-calls
+returns-in-Ok-Some-clause-calls g c =
+    let read = rw c.in-Ok-Some.field-0-is at c.in-Ok-Some.ensures.read in
+    attempt_calls g.D.Disks (g.F.Functions.meaning c.args.functions.now) c.args.self.now c.args.attempt.now c.args.disks.now c.read_needs.new.disks c.complete.new.disks c.in-Ok-Some.read.counts c.in-Ok-Some.read.lists.items _ _ c.requires.can c.requires.now read c.in-Ok-Some.ensures.calls c.complete.ensures.calls
+
+pub returns-in-Ok-clause-calls : goal.returns-in-Ok-clause-calls
+returns-in-Ok-clause-calls g c = read_calls g.D.Disks (g.F.Functions.meaning c.args.functions.now) c.args.self.now.setup c.args.self.now.kept c.args.disks.now c.read_needs.new.disks _ c.in-Ok-None.ensures.calls
+
+pub returns-in-Err-starve-clause-calls : goal.returns-in-Err-starve-clause-calls
+returns-in-Err-starve-clause-calls g c = read_calls g.D.Disks (g.F.Functions.meaning c.args.functions.now) c.args.self.now.setup c.args.self.now.kept c.args.disks.now c.read_needs.new.disks _ c.in-Ok-None.ensures.calls
+
+pub returns-in-Err-clause-calls : goal.returns-in-Err-clause-calls
+returns-in-Err-clause-calls g c = read_calls g.D.Disks (g.F.Functions.meaning c.args.functions.now) c.args.self.now.setup c.args.self.now.kept c.args.disks.now c.read_needs.new.disks _ c.in-Err.ensures.calls
+
+pub returns-in-Ok-Some-clause-keeps : goal.returns-in-Ok-Some-clause-keeps
+returns-in-Ok-Some-clause-keeps g c =
+    let read = rw c.in-Ok-Some.field-0-is at c.in-Ok-Some.ensures.read in
+    on_err_weaker c.complete.result (λ right. read_right (g.F.Functions.meaning c.args.functions.now) c.args.self.now c.args.attempt.now (g.D.Disks.shows_damage c.args.disks.now) (g.D.Disks.told c.args.disks.now) (g.D.Disks.told c.read_needs.new.disks) None c.in-Ok-Some.read.counts c.in-Ok-Some.read.lists.items c.complete.new.self.kept c.requires.can c.requires.now read c.read_needs.ensures.valid right) c.complete.ensures.keeps

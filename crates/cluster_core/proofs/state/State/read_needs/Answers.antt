@@ -13,6 +13,11 @@ use Rattle.cluster_core.specs.States.{Seen}
 use Rattle.cluster_core.proofs.DisksLeft.{beyond_puts}
 use Rattle.cluster_core.proofs.Inside.{kept_in, seen_in, setup_in}
 use Rattle.cluster_core.proofs.Needs.{files_are, has_read, has_stopped, is_starved}
+use Rattle.name_values.specs.Values.{World}
+use Rattle.valid_copies.specs.RightCalls.{RightWork}
+use Rattle.valid_copies.specs.Stands.{Stands}
+use Rattle.valid_copies.proofs.Rightly.{works_none}
+use Rattle.valid_copies.specs.Faults as work
 use Rattle.cluster_core.proofs.state.State.read_needs.Goals as goal
 
 pub read_inputs-read-requires-clause-all_files : goal.read_inputs-read-requires-clause-all_files
@@ -77,3 +82,15 @@ returns-clause-disks g c =
       others = beyond_puts c.self.inside.schedule.nodes (g.D.Disks.told c.args.disks.now) (g.D.Disks.told c.read_inputs-read.new.disks) c.read_inputs-read.ensures.puts_stay;
     } in
     rw (sym c.self.view_is) left
+
+pub returns-in-Ok-Some-clause-calls : goal.returns-in-Ok-Some-clause-calls
+returns-in-Ok-Some-clause-calls g c = subst (λ (s : Seen). (w : World) → Stands w s.kept.table.copies (g.D.Disks.told c.args.disks.now) → RightWork g.D.Disks w c.args.disks.now c.read_inputs-read.new.disks (Unit {0})) c.self.view_is c.in-Ok-Some.ensures.calls
+
+pub returns-in-Ok-None-clause-calls : goal.returns-in-Ok-None-clause-calls
+returns-in-Ok-None-clause-calls g c = subst (λ (s : Seen). (w : World) → Stands w s.kept.table.copies (g.D.Disks.told c.args.disks.now) → RightWork g.D.Disks w c.args.disks.now c.read_inputs-read.new.disks (Unit {0})) c.self.view_is c.in-Ok-None.ensures.calls
+
+pub returns-clause-calls : goal.returns-clause-calls
+returns-clause-calls g c = subst (λ (s : Seen). (w : World) → Stands w s.kept.table.copies (g.D.Disks.told c.args.disks.now) → RightWork g.D.Disks w c.args.disks.now c.read_inputs-read.new.disks (work.AtMissed c.in-Err-read.fault ⊥)) c.self.view_is c.in-Err-read.ensures.calls
+
+pub returns-in-Err-clause-calls : goal.returns-in-Err-clause-calls
+returns-in-Err-clause-calls g c = λ w s. works_none g.D.Disks w c.args.disks.now (Unit {0}) tt

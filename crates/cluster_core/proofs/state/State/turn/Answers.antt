@@ -1,4 +1,4 @@
-use Rattle.std.proofs.Common.{refl, ◌≡◌, ◌<◌, [], List, Option, sym, subst, ◌∙◌}
+use Rattle.std.proofs.Common.{refl, ◌≡◌, ◌<◌, [], List, None, Option, sym, subst, ◌∙◌}
 use Rattle.node_names.specs.declared.task.Task.{Task}
 use Rattle.run_laws.specs.WithoutLoss.{StaysOrderly}
 use Rattle.run_model.specs.Acts.{act, failures_of}
@@ -19,6 +19,9 @@ use Rattle.cluster_core.specs.Turns.{IsRight, IsRunning, Rightly, advanced_to, d
 use Rattle.cluster_core.specs.declared.finished.Finished.{Finished}
 use Rattle.cluster_core.proofs.DisksLeft.{leaves_more}
 use Rattle.cluster_core.proofs.Going.{advanced_open, advanced_orderly, few_failures, in_time, refused_first, refused_then, runs_on, turned, turned_end}
+use Rattle.cluster_core.specs.Works.{CallsRight}
+use Rattle.cluster_core.specs.Faults.{AtMissed}
+use Rattle.cluster_core.proofs.RightTurns.{core_unmissed, calls_so, read_calls, turn_calls}
 use Rattle.cluster_core.proofs.state.State.turn.Goals as goal
 
 pub go_on-requires-clause-orderly : goal.go_on-requires-clause-orderly
@@ -90,4 +93,30 @@ returns-in-Ok-clause-right g c =
     let advanced = subst (λ (o : Option Finished). Follows (advance c.args.self.now.setup (decision_in c.args.self.now) c.args.self.now.plain) (g.D.Disks.told c.args.disks.now) (g.D.Disks.told c.advance.new.disks) (gives (advanced_to o c.advance.new.self.plain))) c.in-Ok-None.field-0-is c.in-Ok-None.ensures.advanced in
     let acts = subst (λ (setup : Setup). StaysRight (g.F.Functions.meaning c.args.functions.now) setup (g.D.Disks.shows_damage c.advance.new.disks) (g.D.Disks.told c.advance.new.disks) (g.D.Disks.told c.go_on.new.disks) c.advance.new.self.kept c.go_on.new.self.kept) c.in-Ok-None.ensures.same c.in-Ok.ensures.right in
     acted_right (g.F.Functions.meaning c.args.functions.now) c.args.self.now.setup (g.D.Disks.shows_damage c.args.disks.now) (g.D.Disks.shows_damage c.advance.new.disks) (g.D.Disks.told c.args.disks.now) (g.D.Disks.told c.advance.new.disks) (g.D.Disks.told c.go_on.new.disks) c.args.self.now.kept c.advance.new.self.kept c.go_on.new.self.kept
+    c.in-Ok-None.ensures.disks.damage_shown (λ t. still_told (g.D.Disks.told c.args.disks.now) (g.D.Disks.told c.advance.new.disks) advanced.calls advanced.added t) right acts
+
+pub returns-in-Ok-Some-clause-calls : goal.returns-in-Ok-Some-clause-calls
+returns-in-Ok-Some-clause-calls g c = read_calls g.D.Disks (g.F.Functions.meaning c.args.functions.now) c.args.self.now.setup c.args.self.now.kept c.args.disks.now c.advance.new.disks _ c.in-Ok-Some.ensures.calls
+
+pub returns-in-Ok-clause-calls : goal.returns-in-Ok-clause-calls
+returns-in-Ok-clause-calls g c =
+    let right = subst (λ (o : Option Finished). (w : World) → Rightly w c.args.self.now.setup.shape (g.D.Disks.shows_damage c.args.disks.now) (g.D.Disks.told c.args.disks.now) c.args.self.now.kept → IsRight w (g.D.Disks.told c.advance.new.disks) c.advance.new.self.kept o) c.in-Ok-None.field-0-is c.in-Ok-None.ensures.right in
+    let later = subst (λ (setup : Setup). CallsRight g.D.Disks (g.F.Functions.meaning c.args.functions.now) setup c.advance.new.self.kept c.advance.new.disks c.go_on.new.disks (Unit {0})) c.in-Ok-None.ensures.same c.in-Ok.ensures.calls in
+    turn_calls g.D.Disks (g.F.Functions.meaning c.args.functions.now) c.args.self.now.setup c.args.self.now.kept c.advance.new.self.kept c.args.disks.now c.advance.new.disks c.go_on.new.disks _ _ c.in-Ok-None.ensures.calls right c.in-Ok-None.ensures.disks.damage_shown later
+
+pub returns-in-Err-go_on-clause-calls : goal.returns-in-Err-go_on-clause-calls
+returns-in-Err-go_on-clause-calls g c =
+    let right = subst (λ (o : Option Finished). (w : World) → Rightly w c.args.self.now.setup.shape (g.D.Disks.shows_damage c.args.disks.now) (g.D.Disks.told c.args.disks.now) c.args.self.now.kept → IsRight w (g.D.Disks.told c.advance.new.disks) c.advance.new.self.kept o) c.in-Ok-None.field-0-is c.in-Ok-None.ensures.right in
+    let later = subst (λ (setup : Setup). CallsRight g.D.Disks (g.F.Functions.meaning c.args.functions.now) setup c.advance.new.self.kept c.advance.new.disks c.go_on.new.disks (AtMissed c.in-Err-go_on.fault ⊥)) c.in-Ok-None.ensures.same c.in-Err-go_on.ensures.calls in
+    turn_calls g.D.Disks (g.F.Functions.meaning c.args.functions.now) c.args.self.now.setup c.args.self.now.kept c.advance.new.self.kept c.args.disks.now c.advance.new.disks c.go_on.new.disks _ _ c.in-Ok-None.ensures.calls right c.in-Ok-None.ensures.disks.damage_shown later
+
+pub returns-in-Err-clause-calls : goal.returns-in-Err-clause-calls
+returns-in-Err-clause-calls g c = calls_so g.D.Disks (g.F.Functions.meaning c.args.functions.now) c.args.self.now.setup c.args.self.now.kept c.args.disks.now c.advance.new.disks _ _ (core_unmissed c.in-Err.fault _ c.from.ensures) (read_calls g.D.Disks (g.F.Functions.meaning c.args.functions.now) c.args.self.now.setup c.args.self.now.kept c.args.disks.now c.advance.new.disks _ c.in-Err.ensures.calls)
+
+pub returns-in-Err-go_on-clause-keeps : goal.returns-in-Err-go_on-clause-keeps
+returns-in-Err-go_on-clause-keeps g c =
+    let right = subst (λ (o : Option Finished). (w : World) → Rightly w c.args.self.now.setup.shape (g.D.Disks.shows_damage c.args.disks.now) (g.D.Disks.told c.args.disks.now) c.args.self.now.kept → IsRight w (g.D.Disks.told c.advance.new.disks) c.advance.new.self.kept o) c.in-Ok-None.field-0-is c.in-Ok-None.ensures.right in
+    let advanced = subst (λ (o : Option Finished). Follows (advance c.args.self.now.setup (decision_in c.args.self.now) c.args.self.now.plain) (g.D.Disks.told c.args.disks.now) (g.D.Disks.told c.advance.new.disks) (gives (advanced_to o c.advance.new.self.plain))) c.in-Ok-None.field-0-is c.in-Ok-None.ensures.advanced in
+    let acts = subst (λ (setup : Setup). StaysRight (g.F.Functions.meaning c.args.functions.now) setup (g.D.Disks.shows_damage c.advance.new.disks) (g.D.Disks.told c.advance.new.disks) None c.advance.new.self.kept c.go_on.new.self.kept) c.in-Ok-None.ensures.same c.in-Err-go_on.ensures.keeps in
+    acted_right (g.F.Functions.meaning c.args.functions.now) c.args.self.now.setup (g.D.Disks.shows_damage c.args.disks.now) (g.D.Disks.shows_damage c.advance.new.disks) (g.D.Disks.told c.args.disks.now) (g.D.Disks.told c.advance.new.disks) None c.args.self.now.kept c.advance.new.self.kept c.go_on.new.self.kept
     c.in-Ok-None.ensures.disks.damage_shown (λ t. still_told (g.D.Disks.told c.args.disks.now) (g.D.Disks.told c.advance.new.disks) advanced.calls advanced.added t) right acts

@@ -8,9 +8,11 @@ use Rattle.cluster_core.specs.Faults.{StoppedIn}
 use Rattle.cluster_core.specs.Running.{IsOldest}
 use Rattle.cluster_core.specs.States.{Seen}
 use Rattle.cluster_core.proofs.Rightness.{same_right}
-use Rattle.cluster_core.specs.Works.{StaysRight}
+use Rattle.cluster_core.specs.Works.{KeepsRight, StaysRight}
 use Rattle.cluster_core.proofs.Inside.{kept_in, plain_in, setup_in}
 use Rattle.cluster_core.proofs.Happening.{oldest_done, oldest_stopped, oldest_waits}
+use Rattle.cluster_core.proofs.RightTurns.{no_calls}
+use Rattle.cluster_core.proofs.Keeping.{keeps_same, on_err}
 use Rattle.cluster_core.proofs.state.State.wait_for.Goals as goal
 
 pub returns-in-Some-clause-acted : goal.returns-in-Some-clause-acted
@@ -30,3 +32,14 @@ returns-in-Some-clause-stopped g c =
 pub returns-in_ok-skip-in_default-clause-right : goal.returns-in_ok-skip-in_default-clause-right
 returns-in_ok-skip-in_default-clause-right g c =
     subst (λ (s : Seen). StaysRight (g.F.Functions.meaning c.args.functions.now) s.setup (g.D.Disks.shows_damage c.args.disks.now) (g.D.Disks.told c.args.disks.now) (g.D.Disks.told c.args.disks.now) s.kept c.skip.new.self.kept) c.self.view_is (same_right (g.F.Functions.meaning c.args.functions.now) (setup_in c.self.inside) (g.D.Disks.shows_damage c.args.disks.now) (g.D.Disks.told c.args.disks.now) (kept_in c.self.inside) c.skip.new.self.kept c.in_ok-skip-in_default.ensures.table c.in_ok-skip-in_default.ensures.values c.in_ok-skip-in_default.ensures.round)
+
+pub returns-in_ok-skip-in_default-clause-calls : goal.returns-in_ok-skip-in_default-clause-calls
+returns-in_ok-skip-in_default-clause-calls g c = no_calls g.D.Disks (g.F.Functions.meaning c.args.functions.now) c.args.self.now.setup c.args.self.now.kept c.args.disks.now (Unit {0}) tt
+
+pub returns-in_err-skip-in_default-clause-keeps : goal.returns-in_err-skip-in_default-clause-keeps
+returns-in_err-skip-in_default-clause-keeps g c =
+    let m = g.F.Functions.meaning c.args.functions.now in
+    let shows = g.D.Disks.shows_damage c.args.disks.now in
+    let before = g.D.Disks.told c.args.disks.now in
+    on_err c.from_residual.result
+    (subst (λ (s : Seen). KeepsRight m s.setup shows before s.kept c.skip.new.self.kept) c.self.view_is (keeps_same m (setup_in c.self.inside) shows before (kept_in c.self.inside) c.skip.new.self.kept c.skip.ensures.table c.skip.ensures.values c.skip.ensures.round))

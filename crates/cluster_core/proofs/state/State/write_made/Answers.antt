@@ -9,6 +9,9 @@ use Rattle.cluster_core.specs.States.{Seen}
 use Rattle.cluster_core.proofs.Inside.{kept_in, setup_in}
 use Rattle.cluster_core.proofs.Left.{beyond, leaves_more}
 use Rattle.cluster_core.proofs.Writing.{began_here, began_there, further_within, goes_there, nodes_stay, wrote_all, wrote_here}
+use Rattle.valid_copies.proofs.Rightly.{works_more}
+use Rattle.cluster_core.proofs.Keeping.{some_stand}
+use Rattle.valid_copies.specs.Stands.{Stands}
 use Rattle.cluster_core.proofs.state.State.write_made.Goals as goal
 
 pub returns-in-Err-clause-begun : goal.returns-in-Err-clause-begun
@@ -67,3 +70,16 @@ returns-clause-disks g c =
       others = beyond nodes (nodes_for (setup_in c.self.inside) c.args.attempt.now.node c.write_copy.new.table.up (holders c.args.name.now c.write_copy.new.table)) _ _ (further_within (setup_in c.self.inside) c.args.attempt.now.node c.write_copy.new.table.up (holders c.args.name.now c.write_copy.new.table) can.node) (c.write_further.ensures.others c.self.inside.shape);
     } in
     rw (sym c.self.view_is) (leaves_more g.D.Disks nodes c.args.disks.now c.write_copy.new.disks c.write_further.new.disks own more)
+
+pub returns-clause-calls : goal.returns-clause-calls
+returns-clause-calls g c = λ w is. works_more g.D.Disks w c.args.disks.now c.write_copy.new.disks c.write_further.new.disks _ _ (c.in-Ok.ensures.calls w is) (c.write_further.ensures.calls w is)
+
+pub returns-clause-digests : goal.returns-clause-digests
+returns-clause-digests g c =
+    let own = c.write_copy.new.table in
+    let further = nodes_for (setup_in c.self.inside) c.args.attempt.now.node own.up (holders c.args.name.now own) in
+    let between = g.D.Disks.told c.write_copy.new.disks in
+    on_err_weaker c.write_further.result
+    (λ some w text s. some_stand w c.args.name.now c.args.bytes.now text further own c.write_further.new.table between (g.D.Disks.told c.write_further.new.disks) between (some c.self.inside.shape)
+    (c.in-Ok.ensures.valid w text (subst (λ (x : Seen). Stands w x.kept.table.copies (g.D.Disks.told c.args.disks.now)) (sym c.self.view_is) s)))
+    c.write_further.ensures.begun
