@@ -1,7 +1,8 @@
 mod ByNumber
-pub mod Chains
 mod Collecting
 mod KeptLimits
 mod KeptRules
-pub mod KeptSchemas
 mod Texts
+pub mod Chains
+pub mod KeptSchemas
+pub mod NoCaches
