@@ -135,6 +135,7 @@ take_text() {
             lines[$line]=$text changed[$edits]=1
             ;;
         says) wants "$work/said" "$text" 'standard output' ;;
+        says_first) head -c "$(spell "$text" | wc -c)" "$work/said" >"$work/first" && wants "$work/first" "$text" 'its beginning' ;;
         wants) spell_path "$about" && wants "$path" "$text" "$path" ;;
     esac
 }
@@ -227,10 +228,10 @@ order() {
         move) spell_path "$other" && write_files && mv "$first" "$path" ;;
         call) call "$rest" ;;
         status) looked=$((looked + 1)) && [ "$status" -eq "$rest" ] || is_wrong "status $status in place of $rest" ;;
-        says | wants) taker=$1 about=$rest text= ;;
+        says | says_first | wants) taker=$1 about=$rest text= ;;
         absent) [ ! -e "$rest" ] || is_wrong "$rest is there" ;;
         count) set -- "$first"/* && [ $# -eq "$other" ] || is_wrong "$# files in $first in place of $other" ;;
-        shell) called=$((called + 1)) looked=$((looked + 1)) && sh -c "$rest" >/dev/null || is_wrong "failed: $rest" ;;
+        shell) write_files && called=$((called + 1)) looked=$((looked + 1)) && sh -c "$rest" >/dev/null || is_wrong "failed: $rest" ;;
         *) expand "${bodies[$1]?"$name: no such word"}" "${heads[$1]}" ' ' "$rest" ;;
     esac
 }

@@ -10,6 +10,7 @@ mod folder_disks;
 mod folder_files;
 mod std_sink;
 
+use folder_disks::FolderDisks;
 use folder_files::FolderFiles;
 use haloop_run::haloop_top;
 use std::io::ErrorKind;
@@ -29,8 +30,15 @@ fn main(rt: HostRuntime) -> ExitCode {
         Err(error) => return ExitCode::from(status_without_words(&error)),
     };
     let mut files = FolderFiles::new(&rt);
+    let mut disks = FolderDisks::new(&rt);
     let mut out = StdSink::new(&rt);
-    ExitCode::from(haloop_top(rt.alloc(), words.as_slice(), &mut files, &mut out))
+    ExitCode::from(haloop_top(
+        rt.alloc(),
+        words.as_slice(),
+        &mut files,
+        &mut disks,
+        &mut out,
+    ))
 }
 
 /// The words after the program's name. It fails where one is not valid text, or for want of memory.

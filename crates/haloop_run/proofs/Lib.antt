@@ -1,6 +1,10 @@
+pub mod Blocked
 pub mod CommandLaws
 pub mod Outcomes
 pub mod OutputLaws
+pub mod Replaying
+pub mod RunLaws
+pub mod Schedules
 pub mod Stopping
 pub mod Tables
 pub mod TopLaws

@@ -1,5 +1,5 @@
 -- The input comes to one status.
-use Rattle.std.proofs.Common.{◌≡◌, ◌≢◌, ℕ, List, [], ◌∷◌, ◌++◌, Option, None, Some, Err, refl, sym, ap, subst, ◌∙◌, inl, inr}
+use Rattle.std.proofs.Common.{◌≡◌, ℕ, List, [], ◌∷◌, ◌++◌, Option, None, Some, Err, refl, sym, ap, subst, ◌∙◌, inl, inr}
 use Rattle.std.specs.FinMap as map
 use Rattle.hal_base.specs.declared.record.Record.{Record}
 use Rattle.hal_base.specs.Lines.{StandsFor}
@@ -9,9 +9,16 @@ use Rattle.program_sketch.specs.declared.fault.What.{What}
 use Rattle.loop_program.specs.Programs.{HasWrong, IsTextOfProgram}
 use Rattle.loop_program.specs.Whole.{Whole}
 use Rattle.haloop_run.specs.Words.{Asked}
-use Rattle.haloop_run.specs.Inputs.{Outcome, complete, absent, bad_program, not_built, bad_table, ComesTo, HasProgram, HasSchedule, HasTable, HaveTables, Listed, ReachesFile, ReachesSchedule, ReachesTable, schedule_text, tables_of}
+use Rattle.haloop_run.specs.Inputs.{Outcome, complete, absent, bad_program, bad_schedule, not_built, bad_table, ComesTo, HasProgram, HasSchedule, HasScheduleAt, HasTable, HaveTables, Listed, ReachesFile, ReachesSchedule, ReachesTable, tables_of}
+use Rattle.run_laws.specs.WithoutLoss.{AreQuiet}
+use Rattle.schedule_text.proofs.Outcomes.{one_outcome}
+use Rattle.schedule_text.specs.Faults.{HasFault}
+use Rattle.schedule_text.specs.Schedules.{IsTextOf}
+use Rattle.schedule_text.specs.declared.fault.ScheduleFault.TheVariants.{At}
+use Rattle.schedule_text.specs.declared.fault.ScheduleWhat.{ScheduleWhat}
+use Rattle.schedule_text.specs.declared.schedule.Schedule.{Schedule}
 use Rattle.haloop_run.specs.Lines.{status_of}
-use Rattle.haloop_run.specs.steps.Inputs.{IsProgramOf, Judged, NoProgram, NoSchedule, NoTable, StopsAtTable}
+use Rattle.haloop_run.specs.steps.Inputs.{IsProgramOf, IsRefusedSchedule, Judged, NoProgram, NoSchedule, NoTable, StopsAtTable}
 
 -- ---- files that are there, and others
 
@@ -24,9 +31,21 @@ not_there o a d e = cc
 asked_once : (o : Option (List ℕ)) (a b : List ℕ) → o ≡ Some a → o ≡ Some b → b ≡ a
 asked_once o a b d e = cc
 
--- the schedule that is asked for is the one schedule where it is accepted
-is_schedule : (files : FileMap) (asked : Option (List ℕ)) (name : List ℕ) → asked ≡ Some name → HasSchedule files asked → map.get files name ≡ Some schedule_text
-is_schedule files asked name e h = subst (λ (o : Option (List ℕ)). HasSchedule files o) e h
+-- the file of the schedule that is asked for, where it is accepted
+schedule_at : (files : FileMap) (asked : Option (List ℕ)) (name : List ℕ) (it : Option Schedule) → asked ≡ Some name → HasSchedule files asked it → (schedule : Schedule) × HasScheduleAt files name schedule
+schedule_at files asked name it e h = go it (subst (λ (o : Option (List ℕ)). HasSchedule files o it) e h)
+  where
+    go : (it : Option Schedule) → HasSchedule files (Some name) it → (schedule : Schedule) × HasScheduleAt files name schedule
+    go None h = absurd h
+    go (Some schedule) h = (schedule, h)
+
+-- an accepted text has no fault, and says one schedule
+not_faulty : (text : List ℕ) (schedule : Schedule) (line : ℕ) (what : ScheduleWhat) → IsTextOf text schedule → HasFault text (At line what) → ⊥
+not_faulty text schedule line what t f = (one_outcome text).not_both schedule line what t f
+
+-- where something is lost in the schedule of a text, no schedule of it is accepted
+not_quiet : (text : List ℕ) (schedule other : Schedule) → IsTextOf text schedule → (AreQuiet schedule.events → ⊥) → IsTextOf text other → AreQuiet other.events → ⊥
+not_quiet text schedule other t n o q = n (subst (λ (s : Schedule). AreQuiet s.events) ((one_outcome text).one_schedule other schedule o t) q)
 
 -- ---- tables that are not accepted
 
@@ -71,9 +90,10 @@ module _ (asked : Asked) (files : FileMap) where
   There o = map.get files asked.program ≡ o
 
   no_program_file : There None → (other : Outcome) → ComesTo files asked other → status_of other ≡ 11
-  no_program_file n (complete program tables) c = absurd (not_there (map.get files asked.program) c.0.text n c.0.there)
+  no_program_file n (complete program schedule tables) c = absurd (not_there (map.get files asked.program) c.0.text n c.0.there)
   no_program_file n (absent name) c = refl
   no_program_file n (bad_program line what) c = absurd (not_there (map.get files asked.program) c.0 n c.1)
+  no_program_file n (bad_schedule line what) c = absurd (not_there (map.get files asked.program) c.1.has_program.text n c.1.has_program.there)
   no_program_file n not_built c = absurd (not_there (map.get files asked.program) c.1.has_program.text n c.1.has_program.there)
   no_program_file n (bad_table name what) c = absurd (not_there (map.get files asked.program) c.1.has_program.text n c.1.has_program.there)
 
@@ -87,9 +107,10 @@ module _ (asked : Asked) (files : FileMap) where
     not_reached name (inr (inr r)) n = no_program_of r.1.program r.1.has_program
 
     wrong_text : (other : Outcome) → ComesTo files asked other → status_of other ≡ 2
-    wrong_text (complete program tables) c = absurd (no_program_of program c.0)
+    wrong_text (complete program schedule tables) c = absurd (no_program_of program c.0)
     wrong_text (absent name) c = absurd (not_reached name c.0 c.1)
     wrong_text (bad_program line what) c = refl
+    wrong_text (bad_schedule line what) c = absurd (no_program_of c.1.program c.1.has_program)
     wrong_text not_built c = absurd (no_program_of c.1.program c.1.has_program)
     wrong_text (bad_table name what) c = absurd (no_program_of c.1.program c.1.has_program)
 
@@ -124,33 +145,77 @@ module _ (asked : Asked) (files : FileMap) where
       at_name : (other : List ℕ) → asked.schedule ≡ Some other → other ≡ name
       at_name other d = asked_once asked.schedule name other e d
 
+      accepted_at : (it : Option Schedule) → HasSchedule files asked.schedule it → (schedule : Schedule) × HasScheduleAt files name schedule
+      accepted_at it h = schedule_at files asked.schedule name it e h
+
       no_schedule_file : map.get files name ≡ None → (other : Outcome) → ComesTo files asked other → status_of other ≡ 11
-      no_schedule_file n (complete program tables) c = absurd (not_there (map.get files name) schedule_text n (is_schedule files asked.schedule name e c.1))
-      no_schedule_file n (absent other) c = refl
-      no_schedule_file n (bad_program line what) c = absurd (none_wrong line what c.0 c.1 c.2)
-      no_schedule_file n not_built c =
-          absurd (not_there (map.get files name) c.2 n (subst (λ (x : List ℕ). map.get files x ≡ Some c.2) (at_name c.0 c.1.is_asked) c.3))
-      no_schedule_file n (bad_table other what) c = absurd (not_there (map.get files name) schedule_text n (is_schedule files asked.schedule name e c.1.has_schedule))
+      no_schedule_file n other c = go other c
+        where
+          none_accepted : (it : Option Schedule) → HasSchedule files asked.schedule it → ⊥
+          none_accepted it h = let s = accepted_at it h in not_there (map.get files name) s.1.text n s.1.there
 
-      module _ (text : List ℕ) (there : map.get files name ≡ Some text) (d : text ≢ schedule_text) where
-        not_accepted : HasSchedule files asked.schedule → ⊥
-        not_accepted h = d (there_once (map.get files name) schedule_text text (is_schedule files asked.schedule name e h) there)
+          none_there : (at : List ℕ) → asked.schedule ≡ Some at → (text : List ℕ) → map.get files at ≡ Some text → ⊥
+          none_there at r text t = not_there (map.get files name) text n (subst (λ (x : List ℕ). map.get files x ≡ Some text) (at_name at r) t)
 
-        not_absent : (other : List ℕ) → ReachesFile files asked other → map.get files other ≡ None → ⊥
-        not_absent other (inl p) n = not_the_program other p n
-        not_absent other (inr (inl r)) n = not_there (map.get files name) text (subst (λ (x : List ℕ). map.get files x ≡ None) (at_name other r.is_asked) n) there
-        not_absent other (inr (inr r)) n = not_accepted r.1.has_schedule
+          go : (other : Outcome) → ComesTo files asked other → status_of other ≡ 11
+          go (complete program schedule tables) c = absurd (none_accepted schedule c.1)
+          go (absent other) c = refl
+          go (bad_program line what) c = absurd (none_wrong line what c.0 c.1 c.2)
+          go (bad_schedule line what) c = absurd (none_there c.0 c.1.is_asked c.2 c.3)
+          go not_built c = absurd (none_there c.0 c.1.is_asked c.2 c.3)
+          go (bad_table other what) c = absurd (none_accepted c.1.schedule c.1.has_schedule)
 
-        other_schedule : (other : Outcome) → ComesTo files asked other → status_of other ≡ 12
-        other_schedule (complete program tables) c = absurd (not_accepted c.1)
-        other_schedule (absent other) c = absurd (not_absent other c.0 c.1)
-        other_schedule (bad_program line what) c = absurd (none_wrong line what c.0 c.1 c.2)
-        other_schedule not_built c = refl
-        other_schedule (bad_table other what) c = absurd (not_accepted c.1.has_schedule)
+      module _ (text : List ℕ) (there : map.get files name ≡ Some text) where
+        -- the text of a schedule that is reached or accepted is this one
+        this_text : (at : List ℕ) → asked.schedule ≡ Some at → (other : List ℕ) → map.get files at ≡ Some other → other ≡ text
+        this_text at r other t = there_once (map.get files name) text other there (subst (λ (x : List ℕ). map.get files x ≡ Some other) (at_name at r) t)
+
+        accepted_text : (it : Option Schedule) → HasSchedule files asked.schedule it → (schedule : Schedule) × IsTextOf text schedule × AreQuiet schedule.events
+        accepted_text it h =
+            let s = accepted_at it h in
+            (s.0, subst (λ (x : List ℕ). IsTextOf x s.0) (there_once (map.get files name) text s.1.text there s.1.there) s.1.is_text, s.1.quiet)
+
+        module _ (not_accepted : (it : Option Schedule) → HasSchedule files asked.schedule it → ⊥) where
+          not_absent : (other : List ℕ) → ReachesFile files asked other → map.get files other ≡ None → ⊥
+          not_absent other (inl p) n = not_the_program other p n
+          not_absent other (inr (inl r)) n = not_there (map.get files name) text (subst (λ (x : List ℕ). map.get files x ≡ None) (at_name other r.is_asked) n) there
+          not_absent other (inr (inr r)) n = not_accepted r.1.schedule r.1.has_schedule
+
+        faulty_schedule : (line : ℕ) (what : ScheduleWhat) → HasFault text (At line what) → (other : Outcome) → ComesTo files asked other → status_of other ≡ 4
+        faulty_schedule line what f other c = go other c
+          where
+            none : (it : Option Schedule) → HasSchedule files asked.schedule it → ⊥
+            none it h = let s = accepted_text it h in not_faulty text s.0 line what s.1 f
+
+            go : (other : Outcome) → ComesTo files asked other → status_of other ≡ 4
+            go (complete program schedule tables) c = absurd (none schedule c.1)
+            go (absent other) c = absurd (not_absent none other c.0 c.1)
+            go (bad_program line what) c = absurd (none_wrong line what c.0 c.1 c.2)
+            go (bad_schedule line what) c = refl
+            go not_built c = absurd (not_faulty text c.4 line what (subst (λ (x : List ℕ). IsTextOf x c.4) (this_text c.0 c.1.is_asked c.2 c.3) c.5) f)
+            go (bad_table other what) c = absurd (none c.1.schedule c.1.has_schedule)
+
+        losing_schedule : (schedule : Schedule) → IsTextOf text schedule → (AreQuiet schedule.events → ⊥) → (other : Outcome) → ComesTo files asked other → status_of other ≡ 12
+        losing_schedule schedule t q other c = go other c
+          where
+            none : (it : Option Schedule) → HasSchedule files asked.schedule it → ⊥
+            none it h = let s = accepted_text it h in not_quiet text schedule s.0 t q s.1 s.2
+
+            go : (other : Outcome) → ComesTo files asked other → status_of other ≡ 12
+            go (complete program it tables) c = absurd (none it c.1)
+            go (absent other) c = absurd (not_absent none other c.0 c.1)
+            go (bad_program line what) c = absurd (none_wrong line what c.0 c.1 c.2)
+            go (bad_schedule line what) c = absurd (not_faulty text schedule line what t (subst (λ (x : List ℕ). HasFault x (At line what)) (this_text c.0 c.1.is_asked c.2 c.3) c.4))
+            go not_built c = refl
+            go (bad_table other what) c = absurd (none c.1.schedule c.1.has_schedule)
+
+        judged_refused : (it : Outcome) → IsRefusedSchedule text it → Judged asked files it
+        judged_refused it (inl n) = subst (λ (o : Outcome). Judged asked files o) (sym n.3) (record { comes = (name, reaches, text, there, n.2); only = faulty_schedule n.0 n.1 n.2 })
+        judged_refused it (inr n) = subst (λ (o : Outcome). Judged asked files o) (sym n.3) (record { comes = (name, reaches, text, there, n.0, n.1, n.2); only = losing_schedule n.0 n.1 n.2 })
 
       judged_other : (it : Outcome) → NoSchedule (Some name) files it → Judged asked files it
       judged_other it (inl n) = subst (λ (o : Outcome). Judged asked files o) (sym n.1) (record { comes = (inr (inl reaches), n.0); only = no_schedule_file n.0 })
-      judged_other it (inr n) = subst (λ (o : Outcome). Judged asked files o) (sym n.3) (record { comes = (name, reaches, n.0, n.1, n.2); only = other_schedule n.0 n.1 n.2 })
+      judged_other it (inr n) = judged_refused n.0 n.1 it n.2
 
     judged_asked : (it : Outcome) (o : Option (List ℕ)) → asked.schedule ≡ o → NoSchedule o files it → Judged asked files it
     judged_asked it None e n = absurd n
@@ -161,12 +226,21 @@ module _ (asked : Asked) (files : FileMap) where
 
     -- ---- a table that is not accepted
 
-    module _ (has : HasSchedule files asked.schedule) where
+    module _ (schedule : Option Schedule) (has : HasSchedule files asked.schedule schedule) where
       not_the_schedule : (name : List ℕ) → asked.schedule ≡ Some name → map.get files name ≡ None → ⊥
-      not_the_schedule name e n = not_there (map.get files name) schedule_text n (is_schedule files asked.schedule name e has)
+      not_the_schedule name e n = let s = schedule_at files asked.schedule name schedule e has in not_there (map.get files name) s.1.text n s.1.there
 
-      built : (name text : List ℕ) → asked.schedule ≡ Some name → map.get files name ≡ Some text → (text ≢ schedule_text) → ⊥
-      built name text e t d = d (there_once (map.get files name) schedule_text text (is_schedule files asked.schedule name e has) t)
+      -- the accepted schedule is that of this text
+      read_here : (name text : List ℕ) → asked.schedule ≡ Some name → map.get files name ≡ Some text → (it : Schedule) × IsTextOf text it × AreQuiet it.events
+      read_here name text e t =
+          let s = schedule_at files asked.schedule name schedule e has in
+          (s.0, subst (λ (x : List ℕ). IsTextOf x s.0) (there_once (map.get files name) text s.1.text t s.1.there) s.1.is_text, s.1.quiet)
+
+      not_bad : (name text : List ℕ) (line : ℕ) (what : ScheduleWhat) → asked.schedule ≡ Some name → map.get files name ≡ Some text → HasFault text (At line what) → ⊥
+      not_bad name text line what e t f = let s = read_here name text e t in not_faulty text s.0 line what s.1 f
+
+      built : (name text : List ℕ) (it : Schedule) → asked.schedule ≡ Some name → map.get files name ≡ Some text → IsTextOf text it → (AreQuiet it.events → ⊥) → ⊥
+      built name text it e t i q = let s = read_here name text e t in not_quiet text it s.0 i q s.1 s.2
 
       same_tables : (other : Whole) → HasProgram files asked other → tables_of other ≡ tables_of program
       same_tables other h = ap tables_of (one_program other h)
@@ -179,6 +253,7 @@ module _ (asked : Asked) (files : FileMap) where
         at_table = record {
           program = program;
           has_program = has_program;
+          schedule = schedule;
           has_schedule = has;
           before = stops.before;
           behind = stops.behind;
@@ -196,10 +271,11 @@ module _ (asked : Asked) (files : FileMap) where
 
         module _ (n : map.get files stops.table.file ≡ None) where
           absent_table : (other : Outcome) → ComesTo files asked other → status_of other ≡ 11
-          absent_table (complete p tables) c = absurd (not_complete p tables c.0 c.2)
+          absent_table (complete p it tables) c = absurd (not_complete p tables c.0 c.2)
           absent_table (absent name) c = refl
           absent_table (bad_program line what) c = absurd (none_wrong line what c.0 c.1 c.2)
-          absent_table not_built c = absurd (built c.0 c.2 c.1.is_asked c.3 c.4)
+          absent_table (bad_schedule line what) c = absurd (not_bad c.0 c.2 line what c.1.is_asked c.3 c.4)
+          absent_table not_built c = absurd (built c.0 c.2 c.4 c.1.is_asked c.3 c.5 c.6)
           absent_table (bad_table name what) c =
               let same = this_table c.0 c.1 (no_table_stands files c.0 (bad_table c.0.name what) (inr (c.3, c.4, what, c.5, c.6, refl))) in
               absurd (not_there (map.get files stops.table.file) c.3 n (subst (λ (t : Listed). map.get files t.file ≡ Some c.3) same c.4))
@@ -214,10 +290,11 @@ module _ (asked : Asked) (files : FileMap) where
               not_there (map.get files stops.table.file) bytes (subst (λ (t : Listed). map.get files t.file ≡ None) same away) there
 
           faulty_table : (other : Outcome) → ComesTo files asked other → status_of other ≡ 3
-          faulty_table (complete p tables) c = absurd (not_complete p tables c.0 c.2)
+          faulty_table (complete p it tables) c = absurd (not_complete p tables c.0 c.2)
           faulty_table (absent name) c = absurd (not_absent_file name c.0 c.1)
           faulty_table (bad_program line what) c = absurd (none_wrong line what c.0 c.1 c.2)
-          faulty_table not_built c = absurd (built c.0 c.2 c.1.is_asked c.3 c.4)
+          faulty_table (bad_schedule line what) c = absurd (not_bad c.0 c.2 line what c.1.is_asked c.3 c.4)
+          faulty_table not_built c = absurd (built c.0 c.2 c.4 c.1.is_asked c.3 c.5 c.6)
           faulty_table (bad_table name what) c = refl
 
         judged_by : NoTable stops.table files it → Judged asked files it
@@ -240,11 +317,12 @@ module _ (asked : Asked) (files : FileMap) where
             none_refused r.0 r.1 (no_table_stands files r.0 (absent r.0.file) (inl (subst (λ (x : List ℕ). map.get files x ≡ None) r.2 n, refl)))
 
         is_complete : (other : Outcome) → ComesTo files asked other → status_of other ≡ 0
-        is_complete (complete p ts) c = refl
+        is_complete (complete p it ts) c = refl
         is_complete (absent name) c = absurd (none_absent name c.0 c.1)
         is_complete (bad_program line what) c = absurd (none_wrong line what c.0 c.1 c.2)
-        is_complete not_built c = absurd (built c.0 c.2 c.1.is_asked c.3 c.4)
+        is_complete (bad_schedule line what) c = absurd (not_bad c.0 c.2 line what c.1.is_asked c.3 c.4)
+        is_complete not_built c = absurd (built c.0 c.2 c.4 c.1.is_asked c.3 c.5 c.6)
         is_complete (bad_table name what) c = absurd (none_refused c.0 c.1 (no_table_stands files c.0 (bad_table c.0.name what) (inr (c.3, c.4, what, c.5, c.6, refl))))
 
-        pub judged_complete : Judged asked files (complete program tables)
+        pub judged_complete : Judged asked files (complete program schedule tables)
         judged_complete = record { comes = (has_program, has, have); only = is_complete }

@@ -8,15 +8,16 @@ use Rattle.hal_outside.specs.Faults.{AtFileDevice}
 use Rattle.hal_outside.specs.Calls.{AbsentsRose, FaultsRose, OnlyReads, Tells}
 use Rattle.hal_outside.proofs.Counts.{rose_before}
 use Rattle.haloop_run.specs.declared.fault.InputFault.{InputFault}
-use Rattle.haloop_run.specs.declared.fault.InputFault.TheVariants.{Absent, BadProgram, NotBuilt, BadTable}
+use Rattle.haloop_run.specs.declared.fault.InputFault.TheVariants.{Absent, BadProgram, BadSchedule, NotBuilt, BadTable}
 use Rattle.haloop_run.specs.declared.fault.CommandFault.{CommandFault}
-use Rattle.haloop_run.specs.declared.fault.CommandFault.TheVariants.{Refused, Failed}
+use Rattle.haloop_run.specs.declared.fault.CommandFault.TheVariants.{Refused, Stopped, Failed}
 use Rattle.haloop_run.specs.Inputs.{Outcome}
 use Rattle.haloop_run.specs.steps.Inputs.{AtAbsent, Stops, outcome_of}
 
 pub at_absent : (fault : InputFault) (p q : Type 0) → (p → q) → AtAbsent fault p → AtAbsent fault q
 at_absent (Absent name) p q f a = f a
 at_absent (BadProgram line what) p q f a = tt
+at_absent (BadSchedule line what) p q f a = tt
 at_absent NotBuilt p q f a = tt
 at_absent (BadTable name what) p q f a = tt
 
@@ -41,4 +42,5 @@ module _ {F : Type 0} (g : Ghosts F) where
     λ told t. pq told t (outcome_of fault) (s.0 told (told_later old mid told r t)),
     at_absent fault (AbsentsRose g mid new) (AbsentsRose g old new) (rose_before (g.absents old) (g.absents mid) (g.absents new) r.0.1) s.1,
   )
+  stops_later old mid new P Q (Stopped fault) r pq s = s
   stops_later old mid new P Q (Failed fault) r pq s = at_device fault (FaultsRose g mid new) (FaultsRose g old new) (rose_before (g.faults old) (g.faults mid) (g.faults new) r.0.0) s

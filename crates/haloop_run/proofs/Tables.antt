@@ -10,7 +10,9 @@ use Rattle.plain_job.specs.Fit.{AreRecordsOf, AreTablesOf}
 use Rattle.loop_program.specs.Rules.{KeepsRules}
 use Rattle.loop_program.specs.Whole.{Whole}
 use Rattle.haloop_run.specs.Inputs.{HasTable, HaveTables, Listed, Outcome, listed, tables_of}
+use Rattle.std.specs.List.{AllByRecursion}
 use Rattle.haloop_run.specs.steps.Inputs.{NoTable, StopsAtTable, listing}
+use Rattle.haloop_run.specs.steps.Runs.{AreFew}
 
 -- ---- the tables that are listed
 
@@ -70,6 +72,14 @@ fit_one_more schemas i schema rows tables after l e r a f = λ more t.
 pub fit_all : (schemas : List Schema) (i : ℕ) (tables : List (List Record)) → length schemas ≤ i → FitSoFar schemas i tables → AreTablesOf schemas tables
 fit_all schemas i tables l f =
     subst (λ (ts : List (List Record)). AreTablesOf schemas ts) (append-nil tables) (f [] (subst (λ (ss : List Schema). AreTablesOf ss []) (sym (drop_of_length-le schemas l)) tt))
+
+-- one more table that has no more records than it may have
+pub few_more : (tables after : List (List Record)) (rows : List Record) → after ≡ tables ++ rows ∷ [] → AllByRecursion AreFew tables → AreFew rows → AllByRecursion AreFew after
+few_more tables after rows e all few = subst (AllByRecursion AreFew) (sym e) (more tables all)
+  where
+    more : (ts : List (List Record)) → AllByRecursion AreFew ts → AllByRecursion AreFew (ts ++ rows ∷ [])
+    more [] a = (few, tt)
+    more (t ∷ ts) a = (a.0, more ts a.1)
 
 -- ---- the tables that are accepted
 

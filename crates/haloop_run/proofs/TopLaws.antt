@@ -2,6 +2,7 @@
 use Rattle.std.proofs.Common.{◌≡◌, ◌≢◌, ℕ, ◌≤◌, ◌⊎◌, List, [], ◌∷◌, ◌++◌, Option, None, Some, Result, Ok, Err, refl, sym, ap, subst, ◌∙◌, inl, inr, length, arith}
 use Rattle.std.specs.Option.{option_map}
 use Rattle.std.proofs.Math.Seq.{take-length}
+use Rattle.hal_outside.specs.declared.disks.Disks.{Ghosts as Disks}
 use Rattle.hal_outside.specs.declared.files.Files.{Ghosts as Files}
 use Rattle.hal_outside.specs.declared.sink.Sink.{Ghosts as Sink}
 use Rattle.hal_outside.specs.declared.faults.FileFault.TheVariants as file
@@ -9,16 +10,20 @@ use Rattle.hal_outside.specs.Told.{FileMap, AfterFailedAppend}
 use Rattle.hal_outside.specs.Calls.{AbsentsRose, Changes, FaultsRose, Gains, OnTold, Tells, WritesFailed}
 use Rattle.plain_job.specs.declared.ending.End.{End}
 use Rattle.haloop_run.specs.declared.fault.InputFault.{InputFault}
-use Rattle.haloop_run.specs.declared.fault.InputFault.TheVariants.{Absent, BadProgram, NotBuilt, BadTable}
+use Rattle.haloop_run.specs.declared.fault.InputFault.TheVariants.{Absent, BadProgram, BadSchedule, NotBuilt, BadTable}
+use Rattle.haloop_run.specs.declared.fault.RunFault.{RunFault}
+use Rattle.haloop_run.specs.declared.fault.RunFault.TheVariants.{TaskFailed, Missed}
 use Rattle.haloop_run.specs.declared.fault.CommandFault.{CommandFault}
-use Rattle.haloop_run.specs.declared.fault.CommandFault.TheVariants.{Refused, Failed}
-use Rattle.haloop_run.specs.declared.run.Ended.{Ended}
+use Rattle.haloop_run.specs.declared.fault.CommandFault.TheVariants.{Refused, Stopped, Failed}
+use Rattle.haloop_run.specs.declared.run.Done.{Done}
 use Rattle.haloop_run.specs.Words.{Asked, AskFor, IsUsage, words_of}
-use Rattle.haloop_run.specs.Inputs.{Outcome, ComesTo}
-use Rattle.haloop_run.specs.Lines.{report, usage_line, outcome_line, status_of, device_line, memory_line}
-use Rattle.haloop_run.specs.Outputs.{Leaves, LeavesPart, AreFirstOf}
-use Rattle.haloop_run.specs.Statuses.{Answers, GainsDue, InputIs, IsDue, IsRefusal, IsStatus}
-use Rattle.haloop_run.specs.steps.Commands.{CameTo, LeavesSome, NoCommand, Performed, Said, SaidPart, done_line, done_status}
+use Rattle.haloop_run.specs.Inputs.{ComesTo, Outcome, absent, bad_program, bad_schedule, bad_table, complete, not_built}
+use Rattle.haloop_run.specs.Lines.{device_line, memory_line, not_built_line, outcome_line, status_of, usage_line}
+use Rattle.haloop_run.specs.Outputs.{AreFirstOf, Leaves, LeavesPart, WritesParts, WritesSome}
+use Rattle.cluster_core.specs.Deciding.{end_of}
+use Rattle.haloop_run.proofs.RunLaws.{began_to, told_end}
+use Rattle.haloop_run.specs.Statuses.{Answers, AnswersTo, AreTrue, BeganRun, DisksFailed, GainsDue, InputIs, IsDone, IsDoneBy, IsDue, IsMissed, IsRefusal, IsStatus, IsTaskFailed, LeavesSome, TellsEnd, of_device, of_done, of_input, of_memory, of_miss, of_task, of_usage}
+use Rattle.haloop_run.specs.steps.Commands.{CameTo, IsRunInput, NoCommand, Performed, Said, SaidPart, done_line, done_status, line_of_stop, status_of_stop, text_of_done}
 use Rattle.haloop_run.specs.steps.Inputs.{AtAbsent, Judged, outcome_of}
 
 -- ---- the words ask for one thing
@@ -44,21 +49,42 @@ asked_once words a b g h = same_names a.program b.program a.schedule b.schedule 
 
 -- ---- statuses
 
-refusal_is : (n : ℕ) → IsRefusal n → (2 ≤ n) × (n ≢ 8) × (n ≢ 10)
-refusal_is n (inl e) = (omega arith, omega arith, omega arith)
-refusal_is n (inr (inl e)) = (omega arith, omega arith, omega arith)
-refusal_is n (inr (inr (inl e))) = (omega arith, omega arith, omega arith)
-refusal_is n (inr (inr (inr e))) = (omega arith, omega arith, omega arith)
+-- a status that says neither that a device failed nor that memory ran out
+abbrev IsSaid : ℕ → Type 0
+IsSaid n = (n ≢ 8) × (n ≢ 10)
 
--- what is refused has the status of a refusal
-refusal_of : (fault : InputFault) → IsRefusal (status_of (outcome_of fault))
-refusal_of (Absent name) = inr (inr (inl refl))
-refusal_of (BadProgram line what) = inl refl
-refusal_of NotBuilt = inr (inr (inr refl))
-refusal_of (BadTable name what) = inr (inl refl)
+refusal_said : (n : ℕ) → IsRefusal n → IsSaid n
+refusal_said n (inl e) = (omega arith, omega arith)
+refusal_said n (inr (inl e)) = (omega arith, omega arith)
+refusal_said n (inr (inr (inl e))) = (omega arith, omega arith)
+refusal_said n (inr (inr (inr e))) = (omega arith, omega arith)
 
-refused_status : (fault : InputFault) → (2 ≤ status_of (outcome_of fault)) × (status_of (outcome_of fault) ≢ 8) × (status_of (outcome_of fault) ≢ 10)
-refused_status fault = refusal_is (status_of (outcome_of fault)) (refusal_of fault)
+-- what is refused has the status of a refusal, or that of what is not built
+refusal_of : (fault : InputFault) → IsRefusal (status_of (outcome_of fault)) ⊎ (status_of (outcome_of fault) ≡ 12)
+refusal_of (Absent name) = inl (inr (inr (inr refl)))
+refusal_of (BadProgram line what) = inl (inl refl)
+refusal_of (BadSchedule line what) = inl (inr (inr (inl refl)))
+refusal_of NotBuilt = inr refl
+refusal_of (BadTable name what) = inl (inr (inl refl))
+
+-- the statuses of inputs that are refused
+abbrev IsOfInput : ℕ → Type 0
+IsOfInput n = (2 ≤ n) × (n ≢ 6) × IsSaid n
+
+of_refusal : (n : ℕ) → IsRefusal n ⊎ (n ≡ 12) → IsOfInput n
+of_refusal n (inl (inl e)) = (omega arith, omega arith, (omega arith, omega arith))
+of_refusal n (inl (inr (inl e))) = (omega arith, omega arith, (omega arith, omega arith))
+of_refusal n (inl (inr (inr (inl e)))) = (omega arith, omega arith, (omega arith, omega arith))
+of_refusal n (inl (inr (inr (inr e)))) = (omega arith, omega arith, (omega arith, omega arith))
+of_refusal n (inr e) = (omega arith, omega arith, (omega arith, omega arith))
+
+input_status : (fault : InputFault) → IsOfInput (status_of (outcome_of fault))
+input_status fault = of_refusal (status_of (outcome_of fault)) (refusal_of fault)
+
+-- the statuses of runs that are refused
+stop_is : (fault : RunFault) → (status_of_stop fault ≡ 6) ⊎ (status_of_stop fault ≡ 12)
+stop_is (TaskFailed task) = inl refl
+stop_is Missed = inr refl
 
 either : {A : Type 0} → A ⊎ A → A
 either (inl a) = a
@@ -73,6 +99,16 @@ all_parts asked rounds end None after l = l
 all_parts asked rounds end (Some before) None l = l
 all_parts asked rounds end (Some before) (Some after) l =
     record { rounds = rounds; end = end; texts = l.texts; chained = l.chained; written = l.texts; first = whole l.texts; changed = l.changed }
+
+some_parts : (asked : Asked) (rounds : ℕ) (end : End) (before after : Option FileMap) → OnTold (Leaves asked rounds end) before after → OnTold (WritesSome asked) before after
+some_parts asked rounds end None after l = l
+some_parts asked rounds end (Some before) None l = l
+some_parts asked rounds end (Some before) (Some after) l = (l.texts, l.texts, whole l.texts, l.changed)
+
+written_parts : (asked : Asked) (before after : Option FileMap) → OnTold (WritesParts asked) before after → OnTold (WritesSome asked) before after
+written_parts asked None after w = w
+written_parts asked (Some before) None w = w
+written_parts asked (Some before) (Some after) w = (w.0, w.0, whole w.0, w.1)
 
 -- what was gained whole was gained as a prefix
 as_prefix : (line : List ℕ) (before after : Option (List ℕ)) → after ≡ option_map (λ held. held ++ line) before → AfterFailedAppend before line after
@@ -116,179 +152,381 @@ module _ {O : Type 0} (h : Sink O) (held holds : O) (result : ℕ) where
 
   is_status : (n : ℕ) (line : List ℕ) → IsStatus n → Says n line → IsStatus result
   is_status n line i (inl s) = subst IsStatus (sym s.0) i
-  is_status n line i (inr (inl s)) = inr (inr (inl s.0))
-  is_status n line i (inr (inr s)) = inr (inr (inr (inl s.0)))
+  is_status n line i (inr (inl s)) = inr (inr (inr (inl s.0)))
+  is_status n line i (inr (inr s)) = inr (inr (inr (inr (inl s.0))))
 
 -- ---- what a command came to
 
-command_status : (done : Result Ended CommandFault) → IsStatus (done_status done)
-command_status (Ok ended) = inl refl
-command_status (Err (Refused fault)) = inr (inr (inr (inr (refusal_of fault))))
-command_status (Err (Failed (file.Device d))) = inr (inr (inl refl))
-command_status (Err (Failed file.Memory)) = inr (inr (inr (inl refl)))
+stopped_status : (n : ℕ) → (n ≡ 6) ⊎ (n ≡ 12) → IsStatus n
+stopped_status n (inl e) = inr (inr (inl e))
+stopped_status n (inr e) = inr (inr (inr (inr (inr (inl e)))))
 
-module _ {F O : Type 0} (g : Files F) (h : Sink O) (words : List (List ℕ)) (old new : F) (held holds : O) (result : ℕ) where
-  abbrev pub Done : Type 0
-  Done = Performed g h words old new held holds result ⊎ NoCommand g h words old new held holds result
+refused_status : (n : ℕ) → IsRefusal n ⊎ (n ≡ 12) → IsStatus n
+refused_status n (inl i) = inr (inr (inr (inr (inr (inr i)))))
+refused_status n (inr e) = inr (inr (inr (inr (inr (inl e)))))
 
-  abbrev Came : Asked → Result Ended CommandFault → Type 0
-  Came asked done = CameTo g asked old new done
+command_status : (done : Result Done CommandFault) → IsStatus (done_status done)
+command_status (Ok done) = inl refl
+command_status (Err (Refused fault)) = refused_status (status_of (outcome_of fault)) (refusal_of fault)
+command_status (Err (Stopped fault)) = stopped_status (status_of_stop fault) (stop_is fault)
+command_status (Err (Failed (file.Device d))) = inr (inr (inr (inl refl)))
+command_status (Err (Failed file.Memory)) = inr (inr (inr (inr (inl refl))))
+
+module _ {F D O : Type 0} (g : Files F) (d : Disks D) (h : Sink O) (words : List (List ℕ)) (old new : F) (held holds : D) (before after : O) (result : ℕ) where
+  abbrev pub Came : Type 0
+  Came = Performed g d h words old new held holds before after result ⊎ NoCommand g h words old new held holds before after result
+
+  abbrev CameSo : Asked → Result Done CommandFault → Type 0
+  CameSo asked done = CameTo g d asked old new held holds done
 
   abbrev Spoken : ℕ → List ℕ → Type 0
-  Spoken n line = Said h n line held holds result
+  Spoken n line = Said h n line before after result
 
-  pub status : Done → IsStatus result
-  status (inl p) = is_status h held holds result (done_status p.done) (done_line p.done) (command_status p.done) p.said
-  status (inr n) = is_status h held holds result 1 usage_line (inr (inl refl)) n.2
+  abbrev Gained : List ℕ → Type 0
+  Gained line = Gains h before line after
+
+  -- what was said whole: a command came to something with this status, or the words are those of none
+  pub data Told : Type 0 where
+    of_command : (asked : Asked) → AskFor words asked → (done : Result Done CommandFault) → CameSo asked done → done_status done ≡ result → Gained (done_line done) → Told
+    of_none : IsUsage words → g.told new ≡ g.told old → holds ≡ held → 1 ≡ result → Gained usage_line → Told
+
+  told_whole : Came → IsSaid result → Told
+  told_whole (inl p) s =
+      let w = said_whole h before after result (done_status p.done) (done_line p.done) p.said s.0 s.1 in of_command p.asked p.ask_for p.done p.came w.0 w.1
+  told_whole (inr n) s =
+      let w = said_whole h before after result 1 usage_line n.3 s.0 s.1 in of_none n.0 n.1 n.2 w.0 w.1
+
+  pub status : Came → IsStatus result
+  status (inl p) = is_status h before after result (done_status p.done) (done_line p.done) (command_status p.done) p.said
+  status (inr n) = is_status h before after result 1 usage_line (inr (inl refl)) n.3
 
   -- ---- 0
 
-  abbrev Leaving : Type 0
-  Leaving = (asked : Asked) × AskFor words asked × (rounds : ℕ) × (end : End) × Changes g (Leaves asked rounds end) old new × Gains h held (report rounds end) holds
+  abbrev Finishing : Type 0
+  Finishing = (asked : Asked) × AskFor words asked × (line : List ℕ) × IsDone g d asked old new held holds line × Gained line
 
-  done_at : (asked : Asked) → AskFor words asked → (done : Result Ended CommandFault) → Came asked done → Spoken (done_status done) (done_line done) → result ≡ 0 → Leaving
-  done_at asked a (Ok ended) c s e = (asked, a, ended.rounds, ended.end, c.0, (said_whole h held holds result 0 (report ended.rounds ended.end) s (omega arith) (omega arith)).1)
-  done_at asked a (Err (Refused fault)) c s e =
-      let w = (said_whole h held holds result (status_of (outcome_of fault)) (outcome_line (outcome_of fault)) s (omega arith) (omega arith)).0 in absurd (omega (arith, (refused_status fault).0))
-  done_at asked a (Err (Failed (file.Device d))) c s e = let w = (said_whole h held holds result 8 device_line s (omega arith) (omega arith)).0 in absurd (omega arith)
-  done_at asked a (Err (Failed file.Memory)) c s e = let w = (said_whole h held holds result 10 memory_line s (omega arith) (omega arith)).0 in absurd (omega arith)
+  done_at : Told → result ≡ 0 → Finishing
+  done_at (of_command asked a (Ok done) c e l) r = (asked, a, text_of_done done, c.0, l)
+  done_at (of_command asked a (Err (Refused fault)) c e l) r = absurd (omega (arith, (input_status fault).0))
+  done_at (of_command asked a (Err (Stopped fault)) c e l) r = absurd (not_stopped (stop_is fault))
+    where
+      not_stopped : (status_of_stop fault ≡ 6) ⊎ (status_of_stop fault ≡ 12) → ⊥
+      not_stopped (inl x) = omega (arith, x, e, r)
+      not_stopped (inr x) = omega (arith, x, e, r)
+  done_at (of_command asked a (Err (Failed (file.Device x))) c e l) r = absurd (omega arith)
+  done_at (of_command asked a (Err (Failed file.Memory)) c e l) r = absurd (omega arith)
+  done_at (of_none u f k e l) r = absurd (omega arith)
 
-  pub done : Done → result ≡ 0 → Leaving
-  done (inl p) e = done_at p.asked p.ask_for p.done p.came p.said e
-  done (inr n) e = let w = (said_whole h held holds result 1 usage_line n.2 (omega arith) (omega arith)).0 in absurd (omega arith)
+  pub done : Came → result ≡ 0 → Finishing
+  done c e = done_at (told_whole c (omega arith, omega arith)) e
+
+  -- the round in which the chain ended, how, and the line that tells it
+  pub record Ended (asked : Asked) : Type 0 where
+    pub rounds : ℕ
+    pub end : End
+    pub leaves : Changes g (Leaves asked rounds end) old new
+    pub line : List ℕ
+    pub tells : TellsEnd asked.schedule rounds end line
+    pub gained : Gained line
+
+  ended_by : AreTrue d held → (asked : Asked) (o : Option (List ℕ)) → asked.schedule ≡ o → (line : List ℕ) → IsDoneBy g d o asked old new held holds line → Gained line → Ended asked
+  ended_by t asked None s line i l = record { rounds = i.rounds; end = i.end; leaves = i.leaves; line = line; tells = subst (λ o. TellsEnd o i.rounds i.end line) (sym s) i.line_is; gained = l }
+  ended_by t asked (Some name) s line i l = record {
+    rounds = i.to.last.round;
+    end = end_of i.word;
+    leaves = i.chain t;
+    line = line;
+    tells = subst (λ o. TellsEnd o i.to.last.round (end_of i.word) line) (sym s) (told_end i.word i.to.last.round i.before_end i.to.last.journal line i.ended i.line_is);
+    gained = l;
+  }
+
+  pub headline : Came → result ≡ 0 → AreTrue d held → (asked : Asked) × AskFor words asked × (rounds : ℕ) × (end : End)
+      × Changes g (Leaves asked rounds end) old new × (line : List ℕ) × TellsEnd asked.schedule rounds end line × Gained line
+  headline c e t =
+      let f = done c e in
+      let h = ended_by t f.0 f.0.schedule refl f.2 f.3 f.4 in
+      (f.0, f.1, h.rounds, h.end, h.leaves, h.line, h.tells, h.gained)
 
   -- ---- 1
 
-  not_usage : (done : Result Ended CommandFault) → Spoken (done_status done) (done_line done) → result ≡ 1 → ⊥
-  not_usage (Ok ended) s e = let w = (said_whole h held holds result 0 (report ended.rounds ended.end) s (omega arith) (omega arith)).0 in omega arith
-  not_usage (Err (Refused fault)) s e =
-      let w = (said_whole h held holds result (status_of (outcome_of fault)) (outcome_line (outcome_of fault)) s (omega arith) (omega arith)).0 in omega (arith, (refused_status fault).0)
-  not_usage (Err (Failed (file.Device d))) s e = let w = (said_whole h held holds result 8 device_line s (omega arith) (omega arith)).0 in omega arith
-  not_usage (Err (Failed file.Memory)) s e = let w = (said_whole h held holds result 10 memory_line s (omega arith) (omega arith)).0 in omega arith
+  pub usage : Came → result ≡ 1 → IsUsage words × Gained usage_line
+  usage c r = usage_at (told_whole c (omega arith, omega arith))
+    where
+      usage_at : Told → IsUsage words × Gained usage_line
+      usage_at (of_command asked a (Ok done) c e l) = absurd (omega arith)
+      usage_at (of_command asked a (Err (Refused fault)) c e l) = absurd (omega (arith, (input_status fault).0))
+      usage_at (of_command asked a (Err (Stopped fault)) c e l) = absurd (not_stopped (stop_is fault))
+        where
+          not_stopped : (status_of_stop fault ≡ 6) ⊎ (status_of_stop fault ≡ 12) → ⊥
+          not_stopped (inl x) = omega (arith, x, e, r)
+          not_stopped (inr x) = omega (arith, x, e, r)
+      usage_at (of_command asked a (Err (Failed (file.Device x))) c e l) = absurd (omega arith)
+      usage_at (of_command asked a (Err (Failed file.Memory)) c e l) = absurd (omega arith)
+      usage_at (of_none u f k e l) = (u, l)
 
-  pub usage : Done → result ≡ 1 → IsUsage words × Gains h held usage_line holds
-  usage (inl p) e = absurd (not_usage p.done p.said e)
-  usage (inr n) e = (n.0, (said_whole h held holds result 1 usage_line n.2 (omega arith) (omega arith)).1)
-
-  -- ---- 2, 3, 11 and 12
-
-  abbrev Refusing : Type 0
-  Refusing = (it : Outcome) × (status_of it ≡ result) × InputIs g words old it × Gains h held (outcome_line it) holds
+  -- ---- 2, 3, 4 and 11
 
   -- what the input is judged to be, it is
   input_is : (asked : Asked) (it : Outcome) → AskFor words asked → ((told : FileMap) → Tells g old told → Judged asked told it) → InputIs g words old it
   input_is asked it a j = (asked, a, λ told t. (j told t).comes)
 
-  refused_at : (asked : Asked) → AskFor words asked → (done : Result Ended CommandFault) → Came asked done → Spoken (done_status done) (done_line done) → (2 ≤ result) × (result ≢ 8) × (result ≢ 10) → Refusing
-  refused_at asked a (Ok ended) c s r = let w = (said_whole h held holds result 0 (report ended.rounds ended.end) s r.1 r.2).0 in absurd (omega (arith, r.0))
-  refused_at asked a (Err (Refused fault)) c s r =
-      let w = said_whole h held holds result (status_of (outcome_of fault)) (outcome_line (outcome_of fault)) s r.1 r.2 in
-      (outcome_of fault, w.0, input_is asked (outcome_of fault) a c.1, w.1)
-  refused_at asked a (Err (Failed (file.Device d))) c s r = absurd (r.1 (sym (said_whole h held holds result 8 device_line s r.1 r.2).0))
-  refused_at asked a (Err (Failed file.Memory)) c s r = absurd (r.2 (sym (said_whole h held holds result 10 memory_line s r.1 r.2).0))
-
-  pub refused : Done → IsRefusal result → Refusing
-  refused (inl p) i = refused_at p.asked p.ask_for p.done p.came p.said (refusal_is result i)
-  refused (inr n) i =
-      let r = refusal_is result i in
-      let w = (said_whole h held holds result 1 usage_line n.2 r.1 r.2).0 in absurd (omega (arith, r.0))
+  -- nothing is changed, and this is wrong with the input
+  pub record Refusing : Type 0 where
+    pub it : Outcome
+    pub status_is : status_of it ≡ result
+    pub input : InputIs g words old it
+    pub gained : Gained (outcome_line it)
+    pub no_calls : holds ≡ held
+    pub absents : result ≡ 11 → AbsentsRose g old new
 
   absent_at : (fault : InputFault) → status_of (outcome_of fault) ≡ 11 → AtAbsent fault (AbsentsRose g old new) → AbsentsRose g old new
   absent_at (Absent name) e a = a
   absent_at (BadProgram line what) e a = absurd (omega arith)
+  absent_at (BadSchedule line what) e a = absurd (omega arith)
   absent_at NotBuilt e a = absurd (omega arith)
   absent_at (BadTable name what) e a = absurd (omega arith)
 
-  absents_at : (asked : Asked) (done : Result Ended CommandFault) → Came asked done → Spoken (done_status done) (done_line done) → result ≡ 11 → AbsentsRose g old new
-  absents_at asked (Ok ended) c s e = let w = (said_whole h held holds result 0 (report ended.rounds ended.end) s (omega arith) (omega arith)).0 in absurd (omega arith)
-  absents_at asked (Err (Refused fault)) c s e =
-      absent_at fault ((said_whole h held holds result (status_of (outcome_of fault)) (outcome_line (outcome_of fault)) s (omega arith) (omega arith)).0 ∙ e) c.2
-  absents_at asked (Err (Failed (file.Device d))) c s e = let w = (said_whole h held holds result 8 device_line s (omega arith) (omega arith)).0 in absurd (omega arith)
-  absents_at asked (Err (Failed file.Memory)) c s e = let w = (said_whole h held holds result 10 memory_line s (omega arith) (omega arith)).0 in absurd (omega arith)
+  refusing : (asked : Asked) → AskFor words asked → (fault : InputFault) → CameSo asked (Err (Refused fault)) → status_of (outcome_of fault) ≡ result → Gained (outcome_line (outcome_of fault)) → Refusing
+  refusing asked a fault c e l =
+      record { it = outcome_of fault; status_is = e; input = input_is asked (outcome_of fault) a c.2; gained = l; no_calls = c.1; absents = λ r. absent_at fault (e ∙ r) c.3 }
 
-  pub absents_rose : Done → result ≡ 11 → AbsentsRose g old new
-  absents_rose (inl p) e = absents_at p.asked p.done p.came p.said e
-  absents_rose (inr n) e = let w = (said_whole h held holds result 1 usage_line n.2 (omega arith) (omega arith)).0 in absurd (omega arith)
+  no_refusal : (n : ℕ) → IsRefusal n → (n ≡ 0) ⊎ (n ≡ 1) ⊎ (n ≡ 6) ⊎ (n ≡ 12) → ⊥
+  no_refusal n (inl r) (inl e) = omega arith
+  no_refusal n (inl r) (inr (inl e)) = omega arith
+  no_refusal n (inl r) (inr (inr (inl e))) = omega arith
+  no_refusal n (inl r) (inr (inr (inr e))) = omega arith
+  no_refusal n (inr (inl r)) (inl e) = omega arith
+  no_refusal n (inr (inl r)) (inr (inl e)) = omega arith
+  no_refusal n (inr (inl r)) (inr (inr (inl e))) = omega arith
+  no_refusal n (inr (inl r)) (inr (inr (inr e))) = omega arith
+  no_refusal n (inr (inr (inl r))) (inl e) = omega arith
+  no_refusal n (inr (inr (inl r))) (inr (inl e)) = omega arith
+  no_refusal n (inr (inr (inl r))) (inr (inr (inl e))) = omega arith
+  no_refusal n (inr (inr (inl r))) (inr (inr (inr e))) = omega arith
+  no_refusal n (inr (inr (inr r))) (inl e) = omega arith
+  no_refusal n (inr (inr (inr r))) (inr (inl e)) = omega arith
+  no_refusal n (inr (inr (inr r))) (inr (inr (inl e))) = omega arith
+  no_refusal n (inr (inr (inr r))) (inr (inr (inr e))) = omega arith
 
-  kept_at : (asked : Asked) (done : Result Ended CommandFault) → Came asked done → Spoken (done_status done) (done_line done) → (1 ≤ result) × (result ≢ 8) × (result ≢ 10) → g.told new ≡ g.told old
-  kept_at asked (Ok ended) c s r = let w = (said_whole h held holds result 0 (report ended.rounds ended.end) s r.1 r.2).0 in absurd (omega (arith, r.0))
-  kept_at asked (Err (Refused fault)) c s r = c.0
-  kept_at asked (Err (Failed (file.Device d))) c s r = absurd (r.1 (sym (said_whole h held holds result 8 device_line s r.1 r.2).0))
-  kept_at asked (Err (Failed file.Memory)) c s r = absurd (r.2 (sym (said_whole h held holds result 10 memory_line s r.1 r.2).0))
+  refused_at : Told → IsRefusal result → Refusing
+  refused_at (of_command asked a (Ok done) c e l) r = absurd (no_refusal result r (inl (sym e)))
+  refused_at (of_command asked a (Err (Refused fault)) c e l) r = refusing asked a fault c e l
+  refused_at (of_command asked a (Err (Stopped fault)) c e l) r = absurd (no_refusal result r (stopped (stop_is fault)))
+    where
+      stopped : (status_of_stop fault ≡ 6) ⊎ (status_of_stop fault ≡ 12) → (result ≡ 0) ⊎ (result ≡ 1) ⊎ (result ≡ 6) ⊎ (result ≡ 12)
+      stopped (inl x) = inr (inr (inl (sym e ∙ x)))
+      stopped (inr x) = inr (inr (inr (sym e ∙ x)))
+  refused_at (of_command asked a (Err (Failed (file.Device x))) c e l) r = absurd ((refusal_said result r).0 (sym e))
+  refused_at (of_command asked a (Err (Failed file.Memory)) c e l) r = absurd ((refusal_said result r).1 (sym e))
+  refused_at (of_none u f k e l) r = absurd (no_refusal result r (inr (inl (sym e))))
 
-  not_failed : (result ≡ 1) ⊎ IsRefusal result → (1 ≤ result) × (result ≢ 8) × (result ≢ 10)
-  not_failed (inl e) = (omega arith, omega arith, omega arith)
-  not_failed (inr i) = let r = refusal_is result i in (omega (arith, r.0), r.1, r.2)
+  refused_by : Came → IsRefusal result → Refusing
+  refused_by c r = refused_at (told_whole c (refusal_said result r)) r
 
-  pub kept : Done → (result ≡ 1) ⊎ IsRefusal result → g.told new ≡ g.told old
-  kept (inl p) i = kept_at p.asked p.done p.came p.said (not_failed i)
-  kept (inr n) i = n.1
+  pub refused : Came → IsRefusal result → (it : Outcome) × (status_of it ≡ result) × InputIs g words old it × Gained (outcome_line it)
+  refused c r = let b = refused_by c r in (b.it, b.status_is, b.input, b.gained)
+
+  pub absents_rose : Came → result ≡ 11 → AbsentsRose g old new
+  absents_rose c e = (refused_by c (inr (inr (inr e)))).absents e
+
+  pub no_calls : Came → (result ≡ 1) ⊎ IsRefusal result → holds ≡ held
+  no_calls c (inr r) = (refused_by c r).no_calls
+  no_calls c (inl r) = none_at (told_whole c (omega arith, omega arith))
+    where
+      none_at : Told → holds ≡ held
+      none_at (of_command asked a (Ok done) c e l) = absurd (omega arith)
+      none_at (of_command asked a (Err (Refused fault)) c e l) = c.1
+      none_at (of_command asked a (Err (Stopped fault)) c e l) = absurd (not_stopped (stop_is fault))
+        where
+          not_stopped : (status_of_stop fault ≡ 6) ⊎ (status_of_stop fault ≡ 12) → ⊥
+          not_stopped (inl x) = omega (arith, x, e, r)
+          not_stopped (inr x) = omega (arith, x, e, r)
+      none_at (of_command asked a (Err (Failed (file.Device x))) c e l) = absurd (omega arith)
+      none_at (of_command asked a (Err (Failed file.Memory)) c e l) = absurd (omega arith)
+      none_at (of_none u f k e l) = k
+
+  -- ---- 6 and 12
+
+  abbrev Failing : Type 0
+  Failing = (asked : Asked) × AskFor words asked × (line : List ℕ) × IsTaskFailed g d asked old held holds line × Gained line
+
+  pub task_failed : Came → result ≡ 6 → Failing
+  task_failed c r = failed_at (told_whole c (omega arith, omega arith))
+    where
+      failed_at : Told → Failing
+      failed_at (of_command asked a (Ok done) c e l) = absurd (omega arith)
+      failed_at (of_command asked a (Err (Refused fault)) c e l) = absurd ((input_status fault).1 (e ∙ r))
+      failed_at (of_command asked a (Err (Stopped (TaskFailed task))) c e l) = (asked, a, line_of_stop (TaskFailed task), c.1, l)
+      failed_at (of_command asked a (Err (Stopped Missed)) c e l) = absurd (omega arith)
+      failed_at (of_command asked a (Err (Failed (file.Device x))) c e l) = absurd (omega arith)
+      failed_at (of_command asked a (Err (Failed file.Memory)) c e l) = absurd (omega arith)
+      failed_at (of_none u f k e l) = absurd (omega arith)
+
+  abbrev NotBuiltYet : Type 0
+  NotBuiltYet = ((holds ≡ held) × InputIs g words old not_built × Gained not_built_line)
+      ⊎ ((asked : Asked) × AskFor words asked × (line : List ℕ) × IsMissed g d asked old held holds line × Gained line)
+
+  pub not_built_yet : Came → result ≡ 12 → NotBuiltYet
+  not_built_yet c r = at (told_whole c (omega arith, omega arith))
+    where
+      of_fault : (asked : Asked) → AskFor words asked → (fault : InputFault) → CameSo asked (Err (Refused fault)) → status_of (outcome_of fault) ≡ result → Gained (outcome_line (outcome_of fault)) → NotBuiltYet
+      of_fault asked a (Absent name) c e l = absurd (omega arith)
+      of_fault asked a (BadProgram line what) c e l = absurd (omega arith)
+      of_fault asked a (BadSchedule line what) c e l = absurd (omega arith)
+      of_fault asked a NotBuilt c e l = inl (c.1, input_is asked not_built a c.2, l)
+      of_fault asked a (BadTable name what) c e l = absurd (omega arith)
+
+      at : Told → NotBuiltYet
+      at (of_command asked a (Ok done) c e l) = absurd (omega arith)
+      at (of_command asked a (Err (Refused fault)) c e l) = of_fault asked a fault c e l
+      at (of_command asked a (Err (Stopped (TaskFailed task))) c e l) = absurd (omega arith)
+      at (of_command asked a (Err (Stopped Missed)) c e l) = inr (asked, a, line_of_stop Missed, c.1, l)
+      at (of_command asked a (Err (Failed (file.Device x))) c e l) = absurd (omega arith)
+      at (of_command asked a (Err (Failed file.Memory)) c e l) = absurd (omega arith)
+      at (of_none u f k e l) = absurd (omega arith)
+
+  not_done : (result ≡ 1) ⊎ (result ≡ 6) ⊎ (result ≡ 12) ⊎ IsRefusal result → IsSaid result × (result ≢ 0)
+  not_done (inl e) = ((omega arith, omega arith), omega arith)
+  not_done (inr (inl e)) = ((omega arith, omega arith), omega arith)
+  not_done (inr (inr (inl e))) = ((omega arith, omega arith), omega arith)
+  not_done (inr (inr (inr i))) = (refusal_said result i, λ e. no_refusal result i (inl e))
+
+  pub kept : Came → (result ≡ 1) ⊎ (result ≡ 6) ⊎ (result ≡ 12) ⊎ IsRefusal result → g.told new ≡ g.told old
+  kept c r = let n = not_done r in kept_at n (told_whole c n.0)
+    where
+      kept_at : IsSaid result × (result ≢ 0) → Told → g.told new ≡ g.told old
+      kept_at n (of_command asked a (Ok done) c e l) = absurd (n.1 (sym e))
+      kept_at n (of_command asked a (Err (Refused fault)) c e l) = c.0
+      kept_at n (of_command asked a (Err (Stopped fault)) c e l) = c.0
+      kept_at n (of_command asked a (Err (Failed (file.Device x))) c e l) = absurd (n.0.0 (sym e))
+      kept_at n (of_command asked a (Err (Failed file.Memory)) c e l) = absurd (n.0.1 (sym e))
+      kept_at n (of_none u f k e l) = f
 
   -- ---- 8 and 10
 
   abbrev Due : List ℕ → Type 0
-  Due line = IsDue g words old new line
+  Due line = IsDue g d words old new held holds line
 
-  due_part : (line : List ℕ) → Due line → SaidPart h line held holds → GainsDue g h words old new held holds
-  due_part line d (inl p) = (line, d, p)
-  due_part line d (inr p) = (memory_line, inr (inr (inr (inr refl))), p)
+  due_part : (line : List ℕ) → Due line → SaidPart h line before after → GainsDue g d h words old new held holds before after
+  due_part line u (inl p) = (line, u, p)
+  due_part line u (inr p) = (memory_line, of_memory refl, p)
 
-  due_line : (asked : Asked) → AskFor words asked → (done : Result Ended CommandFault) → Came asked done → Due (done_line done)
-  due_line asked a (Ok ended) c = inl (asked, a, ended.rounds, ended.end, refl, c.0)
-  due_line asked a (Err (Refused fault)) c = inr (inr (inl (outcome_of fault, refusal_of fault, refl, input_is asked (outcome_of fault) a c.1)))
-  due_line asked a (Err (Failed (file.Device d))) c = inr (inr (inr (inl (refl, c.0))))
-  due_line asked a (Err (Failed file.Memory)) c = inr (inr (inr (inr refl)))
+  due_line : (asked : Asked) → AskFor words asked → (done : Result Done CommandFault) → CameSo asked done → Due (done_line done)
+  due_line asked a (Ok done) c = of_done asked a c.0
+  due_line asked a (Err (Refused fault)) c = of_input (outcome_of fault) (input_is asked (outcome_of fault) a c.2) refl
+  due_line asked a (Err (Stopped (TaskFailed task))) c = of_task asked a c.1
+  due_line asked a (Err (Stopped Missed)) c = of_miss asked a c.1
+  due_line asked a (Err (Failed (file.Device x))) c = of_device c.0 refl
+  due_line asked a (Err (Failed file.Memory)) c = of_memory refl
 
   -- whatever was answered, the sink gained a prefix of a line that is due
-  pub said_due : Done → GainsDue g h words old new held holds
-  said_due (inl p) = due_part (done_line p.done) (due_line p.asked p.ask_for p.done p.came) (said_part h held holds result (done_status p.done) (done_line p.done) p.said)
-  said_due (inr n) = due_part usage_line (inr (inl (refl, n.0))) (said_part h held holds result 1 usage_line n.2)
+  pub said_due : Came → GainsDue g d h words old new held holds before after
+  said_due (inl p) = due_part (done_line p.done) (due_line p.asked p.ask_for p.done p.came) (said_part h before after result (done_status p.done) (done_line p.done) p.said)
+  said_due (inr n) = due_part usage_line (of_usage n.0 refl) (said_part h before after result 1 usage_line n.3)
 
-  -- a status 8 comes of the files, and then its line was said whole, or of the sink
-  device_at : (asked : Asked) (done : Result Ended CommandFault) → Came asked done → Spoken (done_status done) (done_line done) → result ≡ 8 → (FaultsRose g old new × Gains h held device_line holds) ⊎ WritesFailed h held holds
-  device_at asked (Ok ended) c s e = inr (sink_failed h held holds result 0 (report ended.rounds ended.end) s e (omega arith))
-  device_at asked (Err (Refused fault)) c s e = inr (sink_failed h held holds result (status_of (outcome_of fault)) (outcome_line (outcome_of fault)) s e (refused_status fault).1)
-  device_at asked (Err (Failed (file.Device d))) c (inl s) e = inl (c.0, s.1)
-  device_at asked (Err (Failed (file.Device d))) c (inr (inl s)) e = inr s.1
-  device_at asked (Err (Failed (file.Device d))) c (inr (inr s)) e = absurd (omega (arith, s.0))
-  device_at asked (Err (Failed file.Memory)) c s e = inr (sink_failed h held holds result 10 memory_line s e (omega arith))
+  abbrev CallsFailed : Type 0
+  CallsFailed = FaultsRose g old new ⊎ DisksFailed d held holds
 
-  device_of : Done → result ≡ 8 → (FaultsRose g old new × Gains h held device_line holds) ⊎ WritesFailed h held holds
+  -- a status 8 comes of the files or the disks, and then its line was said whole, or of the sink
+  device_at : (asked : Asked) (done : Result Done CommandFault) → CameSo asked done → Spoken (done_status done) (done_line done) → result ≡ 8 → (CallsFailed × Gained device_line) ⊎ WritesFailed h before after
+  device_at asked (Ok done) c s e = inr (sink_failed h before after result 0 (text_of_done done) s e (omega arith))
+  device_at asked (Err (Refused fault)) c s e = inr (sink_failed h before after result (status_of (outcome_of fault)) (outcome_line (outcome_of fault)) s e (input_status fault).2.0)
+  device_at asked (Err (Stopped (TaskFailed task))) c s e = inr (sink_failed h before after result 6 (line_of_stop (TaskFailed task)) s e (omega arith))
+  device_at asked (Err (Stopped Missed)) c s e = inr (sink_failed h before after result 12 (line_of_stop Missed) s e (omega arith))
+  device_at asked (Err (Failed (file.Device x))) c (inl s) e = inl (c.0, s.1)
+  device_at asked (Err (Failed (file.Device x))) c (inr (inl s)) e = inr s.1
+  device_at asked (Err (Failed (file.Device x))) c (inr (inr s)) e = absurd (omega (arith, s.0))
+  device_at asked (Err (Failed file.Memory)) c s e = inr (sink_failed h before after result 10 memory_line s e (omega arith))
+
+  device_of : Came → result ≡ 8 → (CallsFailed × Gained device_line) ⊎ WritesFailed h before after
   device_of (inl p) e = device_at p.asked p.done p.came p.said e
-  device_of (inr n) e = inr (sink_failed h held holds result 1 usage_line n.2 e (omega arith))
+  device_of (inr n) e = inr (sink_failed h before after result 1 usage_line n.3 e (omega arith))
 
-  rose : (FaultsRose g old new × Gains h held device_line holds) ⊎ WritesFailed h held holds → FaultsRose g old new ⊎ WritesFailed h held holds
-  rose (inl d) = inl d.0
-  rose (inr w) = inr w
+  rose : (CallsFailed × Gained device_line) ⊎ WritesFailed h before after → FaultsRose g old new ⊎ DisksFailed d held holds ⊎ WritesFailed h before after
+  rose (inl (inl f, l)) = inl f
+  rose (inl (inr f, l)) = inr (inl f)
+  rose (inr w) = inr (inr w)
 
-  pub device : Done → result ≡ 8 → FaultsRose g old new ⊎ WritesFailed h held holds
-  device d e = rose (device_of d e)
+  pub device : Came → result ≡ 8 → FaultsRose g old new ⊎ DisksFailed d held holds ⊎ WritesFailed h before after
+  device c e = rose (device_of c e)
 
-  with_due : GainsDue g h words old new held holds → (FaultsRose g old new × Gains h held device_line holds) ⊎ WritesFailed h held holds → (FaultsRose g old new × Gains h held device_line holds) ⊎ (WritesFailed h held holds × GainsDue g h words old new held holds)
-  with_due p (inl d) = inl d
+  with_due : GainsDue g d h words old new held holds before after → (CallsFailed × Gained device_line) ⊎ WritesFailed h before after → (CallsFailed × Gained device_line) ⊎ (WritesFailed h before after × GainsDue g d h words old new held holds before after)
+  with_due p (inl x) = inl x
   with_due p (inr w) = inr (w, p)
 
-  pub device_said : Done → result ≡ 8 → (FaultsRose g old new × Gains h held device_line holds) ⊎ (WritesFailed h held holds × GainsDue g h words old new held holds)
-  device_said d e = with_due (said_due d) (device_of d e)
+  pub device_said : Came → result ≡ 8 → (CallsFailed × Gained device_line) ⊎ (WritesFailed h before after × GainsDue g d h words old new held holds before after)
+  device_said c e = with_due (said_due c) (device_of c e)
 
-  abbrev Left : Type 0
-  Left = (g.told new ≡ g.told old) ⊎ ((asked : Asked) × AskFor words asked × Changes g (LeavesPart asked) old new)
+  abbrev LeftSome : Type 0
+  LeftSome = (g.told new ≡ g.told old) ⊎ ((asked : Asked) × AskFor words asked × LeavesSome g d asked old new held)
 
-  some_left : (asked : Asked) → AskFor words asked → LeavesSome g asked old new → Left
-  some_left asked a (inl e) = inl e
-  some_left asked a (inr p) = inr (asked, a, p)
+  done_some : (asked : Asked) (line : List ℕ) (o : Option (List ℕ)) → asked.schedule ≡ o → IsDoneBy g d o asked old new held holds line → LeavesSome g d asked old new held
+  done_some asked line None s i = inr (some_parts asked i.rounds i.end (g.told old) (g.told new) i.leaves, λ x. all_parts asked i.rounds i.end (g.told old) (g.told new) i.leaves)
+  done_some asked line (Some name) s i = inr (written_parts asked (g.told old) (g.told new) i.parts, by_chain)
+    where
+      none : (o : Option (List ℕ)) → o ≡ Some name → o ≡ None → ⊥
+      none o e f = cc
 
-  left_at : (asked : Asked) → AskFor words asked → (done : Result Ended CommandFault) → Came asked done → Left
-  left_at asked a (Ok ended) c = inr (asked, a, all_parts asked ended.rounds ended.end (g.told old) (g.told new) c.0)
+      by_chain : (asked.schedule ≡ None) ⊎ AreTrue d held → Changes g (LeavesPart asked) old new
+      by_chain (inl e) = absurd (none asked.schedule s e)
+      by_chain (inr t) = all_parts asked i.to.last.round (end_of i.word) (g.told old) (g.told new) (i.chain t)
+
+  left_at : (asked : Asked) → AskFor words asked → (done : Result Done CommandFault) → CameSo asked done → LeftSome
+  left_at asked a (Ok done) c = inr (asked, a, done_some asked (text_of_done done) asked.schedule refl c.0)
   left_at asked a (Err (Refused fault)) c = inl c.0
-  left_at asked a (Err (Failed fault)) c = some_left asked a c.1
+  left_at asked a (Err (Stopped fault)) c = inl c.0
+  left_at asked a (Err (Failed fault)) c = inr (asked, a, c.1)
 
   -- whatever a call came to, it left the files as they were or the first of the part files
-  pub left : Done → Left
+  pub left : Came → LeftSome
   left (inl p) = left_at p.asked p.ask_for p.done p.came
   left (inr n) = inl n.1
 
+  abbrev BeganSome : Type 0
+  BeganSome = (holds ≡ held) ⊎ ((asked : Asked) × AskFor words asked × BeganRun g d asked old held holds)
+
+  -- the calls of a run, whatever it came to, are the first of a run
+  done_began : (asked : Asked) (line : List ℕ) (o : Option (List ℕ)) → IsDoneBy g d o asked old new held holds line → BeganRun g d asked old held holds
+  done_began asked line None i = inl i.no_calls
+  done_began asked line (Some name) i = inr (began_to g d asked old held holds i.to)
+
+  began_at : (asked : Asked) → (done : Result Done CommandFault) → CameSo asked done → BeganRun g d asked old held holds
+  began_at asked (Ok done) c = done_began asked (text_of_done done) asked.schedule c.0
+  began_at asked (Err (Refused fault)) c = inl c.1
+  began_at asked (Err (Stopped (TaskFailed task))) c = inr (began_to g d asked old held holds c.1.to)
+  began_at asked (Err (Stopped Missed)) c = inr (began_to g d asked old held holds c.1.to)
+  began_at asked (Err (Failed fault)) c = c.2
+
+  pub began : Came → BeganSome
+  began (inl p) = inr (p.asked, p.ask_for, began_at p.asked p.done p.came)
+  began (inr n) = inl n.2
+
   -- ---- the other direction
+
+  -- what is answered to an input by the status of all that it comes to
+  answers_to : (it : Outcome) → Answers (status_of it) result → AnswersTo it result
+  answers_to (complete program None tables) a = a
+  answers_to (complete program (Some schedule) tables) a = inr (inr a)
+  answers_to (absent name) a = a
+  answers_to (bad_program line what) a = a
+  answers_to (bad_schedule line what) a = a
+  answers_to not_built a = a
+  answers_to (bad_table name what) a = a
+
+  run_answers : (it : Outcome) → IsRunInput it → (result ≡ 6) ⊎ (result ≡ 12) ⊎ Answers 0 result → AnswersTo it result
+  run_answers (complete program None tables) i a = absurd i
+  run_answers (complete program (Some schedule) tables) i a = a
+  run_answers (absent name) i a = absurd i
+  run_answers (bad_program line what) i a = absurd i
+  run_answers (bad_schedule line what) i a = absurd i
+  run_answers not_built i a = absurd i
+  run_answers (bad_table name what) i a = absurd i
+
+  stop_answers : (fault : RunFault) → Spoken (status_of_stop fault) (line_of_stop fault) → (result ≡ 6) ⊎ (result ≡ 12) ⊎ Answers 0 result
+  stop_answers (TaskFailed task) (inl s) = inl s.0
+  stop_answers Missed (inl s) = inr (inl s.0)
+  stop_answers fault (inr (inl s)) = inr (inr (inr (inl s.0)))
+  stop_answers fault (inr (inr s)) = inr (inr (inr (inr s.0)))
 
   failed : (m n : ℕ) (line : List ℕ) → Spoken n line → (n ≡ 8) ⊎ (n ≡ 10) → Answers m result
   failed m n line (inl s) (inl f) = inr (inl (s.0 ∙ f))
@@ -298,19 +536,20 @@ module _ {F O : Type 0} (g : Files F) (h : Sink O) (words : List (List ℕ)) (ol
 
   -- the status of what the input comes to is the only one
   as_status : (m n : ℕ) (line : List ℕ) → n ≡ m → Spoken m line → Answers n result
-  as_status m n line e s = subst (λ (k : ℕ). Answers k result) (sym e) (said_status h held holds result m line s)
+  as_status m n line e s = subst (λ (k : ℕ). Answers k result) (sym e) (said_status h before after result m line s)
 
-  answered_at : (asked : Asked) (done : Result Ended CommandFault) → Came asked done → Spoken (done_status done) (done_line done) → (told : FileMap) → Tells g old told → (it : Outcome) → ComesTo told asked it → Answers (status_of it) result
-  answered_at asked (Ok ended) c s told t it i = as_status 0 (status_of it) (report ended.rounds ended.end) (c.1 told t it i) s
-  answered_at asked (Err (Refused fault)) c s told t it i = as_status (status_of (outcome_of fault)) (status_of it) (outcome_line (outcome_of fault)) ((c.1 told t).only it i) s
-  answered_at asked (Err (Failed (file.Device d))) c s told t it i = failed (status_of it) 8 device_line s (inl refl)
-  answered_at asked (Err (Failed file.Memory)) c s told t it i = failed (status_of it) 10 memory_line s (inr refl)
+  answered_at : (asked : Asked) (done : Result Done CommandFault) → CameSo asked done → Spoken (done_status done) (done_line done) → (told : FileMap) → Tells g old told → (it : Outcome) → ComesTo told asked it → AnswersTo it result
+  answered_at asked (Ok done) c s told t it i = answers_to it (as_status 0 (status_of it) (text_of_done done) (c.1 told t it i) s)
+  answered_at asked (Err (Refused fault)) c s told t it i = answers_to it (as_status (status_of (outcome_of fault)) (status_of it) (outcome_line (outcome_of fault)) ((c.2 told t).only it i) s)
+  answered_at asked (Err (Stopped fault)) c s told t it i = run_answers it (c.2 told t it i) (stop_answers fault s)
+  answered_at asked (Err (Failed (file.Device x))) c s told t it i = answers_to it (failed (status_of it) 8 device_line s (inl refl))
+  answered_at asked (Err (Failed file.Memory)) c s told t it i = answers_to it (failed (status_of it) 10 memory_line s (inr refl))
 
-  pub answered : Done → (told : FileMap) → Tells g old told → (asked : Asked) (it : Outcome) → AskFor words asked → ComesTo told asked it → Answers (status_of it) result
+  pub answered : Came → (told : FileMap) → Tells g old told → (asked : Asked) (it : Outcome) → AskFor words asked → ComesTo told asked it → AnswersTo it result
   answered (inl p) told t asked it a i =
       answered_at p.asked p.done p.came p.said told t it (subst (λ (x : Asked). ComesTo told x it) (asked_once words asked p.asked a p.ask_for) i)
   answered (inr n) told t asked it a i = absurd (n.0 asked a)
 
-  pub usage_answered : Done → IsUsage words → Answers 1 result
+  pub usage_answered : Came → IsUsage words → Answers 1 result
   usage_answered (inl p) u = absurd (u p.asked p.ask_for)
-  usage_answered (inr n) u = said_status h held holds result 1 usage_line n.2
+  usage_answered (inr n) u = said_status h before after result 1 usage_line n.3

@@ -1,5 +1,5 @@
 -- What the input of a command comes to: its program, the schedule where one is asked for, and the tables, read in this order.
-use Rattle.std.specs.Prelude.{◌≡◌, ◌≢◌, ℕ, ◌⊎◌, List, [], ◌∷◌, ◌++◌, Option, None, Some, codes}
+use Rattle.std.specs.Prelude.{◌≡◌, ◌≢◌, ℕ, ◌⊎◌, List, [], ◌∷◌, ◌++◌, Option, None, Some}
 use Rattle.std.specs.FinMap as map
 use Rattle.hal_base.specs.declared.fields.Schema.{Schema}
 use Rattle.hal_base.specs.declared.record.Record.{Record}
@@ -8,14 +8,16 @@ use Rattle.hal_base.specs.declared.table.TableFault.TheVariants as fault
 use Rattle.hal_base.specs.Lines.{StandsFor}
 use Rattle.hal_base.specs.TableFaults.{HasTableFault}
 use Rattle.hal_outside.specs.Told.{FileMap}
+use Rattle.run_laws.specs.WithoutLoss.{AreQuiet}
+use Rattle.schedule_text.specs.Faults.{HasFault}
+use Rattle.schedule_text.specs.Schedules.{IsTextOf}
+use Rattle.schedule_text.specs.declared.fault.ScheduleFault.TheVariants.{At}
+use Rattle.schedule_text.specs.declared.fault.ScheduleWhat.{ScheduleWhat}
+use Rattle.schedule_text.specs.declared.schedule.Schedule.{Schedule}
 use Rattle.program_sketch.specs.declared.fault.What.{What}
 use Rattle.loop_program.specs.Programs.{HasWrong, IsTextOfProgram}
 use Rattle.loop_program.specs.Whole.{Whole}
 use Rattle.haloop_run.specs.Words.{Asked}
-
--- the one schedule: one node and no events
-abbrev pub schedule_text : List ℕ
-schedule_text = codes "nodes 1\n"
 
 -- a table as the program lists it: its name, its file, the schema of its records
 pub record Listed : Type 0 where
@@ -42,10 +44,19 @@ pub record HasProgram (files : FileMap) (asked : Asked) (program : Whole) : Type
   pub there : map.get files asked.program ≡ Some text
   pub is_text : IsTextOfProgram text program
 
--- the schedule's file, where one is asked for, has the one schedule
-abbrev pub HasSchedule : FileMap → Option (List ℕ) → Type 0
-HasSchedule files None = Unit {0}
-HasSchedule files (Some name) = map.get files name ≡ Some schedule_text
+-- the file of this name has the text of this schedule, in which nothing is lost
+pub record HasScheduleAt (files : FileMap) (name : List ℕ) (schedule : Schedule) : Type 0 where
+  pub text : List ℕ
+  pub there : map.get files name ≡ Some text
+  pub is_text : IsTextOf text schedule
+  pub quiet : AreQuiet schedule.events
+
+-- the schedule's file, where one is asked for, has this one
+abbrev pub HasSchedule : FileMap → Option (List ℕ) → Option Schedule → Type 0
+HasSchedule files None None = Unit {0}
+HasSchedule files None (Some schedule) = ⊥
+HasSchedule files (Some name) None = ⊥
+HasSchedule files (Some name) (Some schedule) = HasScheduleAt files name schedule
 
 -- the file of a table stands for these records
 pub record HasTable (files : FileMap) (table : Listed) (rows : List Record) : Type 0 where
@@ -72,7 +83,8 @@ pub record ReachesSchedule (files : FileMap) (asked : Asked) (name : List ℕ) :
 pub record ReachesTable (files : FileMap) (asked : Asked) (table : Listed) : Type 0 where
   pub program : Whole
   pub has_program : HasProgram files asked program
-  pub has_schedule : HasSchedule files asked.schedule
+  pub schedule : Option Schedule
+  pub has_schedule : HasSchedule files asked.schedule schedule
   pub before : List Listed
   pub behind : List Listed
   pub in_order : tables_of program ≡ before ++ table ∷ behind
@@ -86,19 +98,22 @@ ReachesFile files asked name =
 
 -- ---- what it comes to
 
--- the input is complete, or this file is absent, or this is wrong with the program in this line, or the schedule is one that is not built, or this table has a fault
+-- the input is complete, or this file is absent, or this is wrong with the program or with the schedule in this line, or the schedule has an event that is not built, or this table has a fault
 pub data Outcome : Type 0 where
-  complete : Whole → List (List Record) → Outcome
+  complete : Whole → Option Schedule → List (List Record) → Outcome
   absent : List ℕ → Outcome
   bad_program : ℕ → What → Outcome
+  bad_schedule : ℕ → ScheduleWhat → Outcome
   not_built : Outcome
   bad_table : List ℕ → TableFault → Outcome
 
 -- what the input comes to: all of it is accepted, or all before the first file that is not
 abbrev pub ComesTo : FileMap → Asked → Outcome → Type 0
-ComesTo files asked (complete program tables) = HasProgram files asked program × HasSchedule files asked.schedule × HaveTables files (tables_of program) tables
+ComesTo files asked (complete program schedule tables) = HasProgram files asked program × HasSchedule files asked.schedule schedule × HaveTables files (tables_of program) tables
 ComesTo files asked (absent name) = ReachesFile files asked name × (map.get files name ≡ None)
 ComesTo files asked (bad_program line what) = (text : List ℕ) × (map.get files asked.program ≡ Some text) × HasWrong text line what
-ComesTo files asked not_built = (name : List ℕ) × ReachesSchedule files asked name × (text : List ℕ) × (map.get files name ≡ Some text) × (text ≢ schedule_text)
+ComesTo files asked (bad_schedule line what) = (name : List ℕ) × ReachesSchedule files asked name × (text : List ℕ) × (map.get files name ≡ Some text) × HasFault text (At line what)
+ComesTo files asked not_built =
+    (name : List ℕ) × ReachesSchedule files asked name × (text : List ℕ) × (map.get files name ≡ Some text) × (schedule : Schedule) × IsTextOf text schedule × (AreQuiet schedule.events → ⊥)
 ComesTo files asked (bad_table name what) =
     (table : Listed) × ReachesTable files asked table × (name ≡ table.name) × (bytes : List ℕ) × (map.get files table.file ≡ Some bytes) × HasTableFault table.schema bytes what × (what ≢ fault.Memory)

@@ -1,5 +1,5 @@
 -- What a command leaves in the files: its part files.
-use Rattle.std.specs.Prelude.{◌≡◌, ℕ, ◌+◌, ◌%◌, ◌/◌, ◌⊎◌, List, [], ◌∷◌, ◌++◌, codes, take}
+use Rattle.std.specs.Prelude.{◌≡◌, ℕ, ◌+◌, ◌%◌, ◌/◌, ◌⊎◌, List, [], ◌∷◌, ◌++◌, Option, codes, take}
 use Rattle.std.specs.FinMap as map
 use Rattle.hal_base.specs.declared.record.Record.{Record}
 use Rattle.hal_outside.specs.Told.{FileMap}
@@ -8,6 +8,7 @@ use Rattle.plain_job.specs.Ends.{IsChain}
 use Rattle.loop_program.specs.Whole.{Whole}
 use Rattle.haloop_run.specs.Words.{Asked}
 use Rattle.haloop_run.specs.Inputs.{complete, ComesTo}
+use Rattle.schedule_text.specs.declared.schedule.Schedule.{Schedule}
 use Rattle.haloop_run.specs.Meanings.{meaning_of}
 
 -- the byte of the last digit of a number
@@ -33,8 +34,9 @@ AreFirstOf (text ∷ texts) (written ∷ more) = ((written ≡ text) × AreFirst
 -- the input is complete, and its chain ends in this round, in this way, with these texts of its parts
 pub record Chained (files : FileMap) (asked : Asked) (rounds : ℕ) (end : End) (texts : List (List ℕ)) : Type 0 where
   pub program : Whole
+  pub schedule : Option Schedule
   pub tables : List (List Record)
-  pub comes : ComesTo files asked (complete program tables)
+  pub comes : ComesTo files asked (complete program schedule tables)
   pub chain : IsChain (meaning_of program) program.shape tables texts rounds end
 
 -- the files are as before, but for the part files, which have the texts of the chain's parts
@@ -52,3 +54,11 @@ pub record LeavesPart (asked : Asked) (before after : FileMap) : Type 0 where
   pub written : List (List ℕ)
   pub first : AreFirstOf texts written
   pub changed : after ≡ with_parts asked.out 0 written before
+
+-- the files are as before, but for part files, which have these texts
+abbrev pub WritesParts : Asked → FileMap → FileMap → Type 0
+WritesParts asked before after = (texts : List (List ℕ)) × (after ≡ with_parts asked.out 0 texts before)
+
+-- the files are as before, but for some part files, of whatever texts
+abbrev pub WritesSome : Asked → FileMap → FileMap → Type 0
+WritesSome asked before after = (texts : List (List ℕ)) × (written : List (List ℕ)) × AreFirstOf texts written × (after ≡ with_parts asked.out 0 written before)

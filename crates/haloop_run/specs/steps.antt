@@ -2,4 +2,5 @@
 pub mod Commands
 pub mod Inputs
 pub mod Outputs
+pub mod Runs
 pub mod Words

@@ -1,6 +1,9 @@
+use cluster_core::CoreFault;
 use hal_base::{Items, Memory, TableFault, Text};
 use hal_outside::FileFault;
 use loop_program::{ProgramFault, What};
+use node_names::Task;
+use schedule_text::{ScheduleFault, ScheduleWhat};
 
 /// What is wrong with the input of a command.
 #[derive(Drop)]
@@ -9,10 +12,21 @@ pub(crate) enum InputFault {
     Absent(Items<u8>),
     /// This is wrong with the program in this line.
     BadProgram { line: u64, what: What },
-    /// The schedule is one that is not built yet.
+    /// This is wrong with the schedule in this line.
+    BadSchedule { line: u64, what: ScheduleWhat },
+    /// The schedule has an event that is not built yet.
     NotBuilt,
     /// The file of the table of this name stands for no table.
     BadTable { name: Text, what: TableFault },
+}
+
+/// Why a run of the cluster is refused.
+#[derive(Clone, Copy)]
+pub(crate) enum RunFault {
+    /// The task failed as often as the schedule allows.
+    TaskFailed { task: Task },
+    /// A read missed, and what follows on that is not built yet.
+    Missed,
 }
 
 /// Why a command is not done.
@@ -20,7 +34,9 @@ pub(crate) enum InputFault {
 pub(crate) enum CommandFault {
     /// Its input is refused.
     Refused(InputFault),
-    /// A device failed a call on files, or memory ran out.
+    /// Its run of the cluster is refused.
+    Stopped(RunFault),
+    /// A device failed a call, or memory ran out.
     Failed(FileFault),
 }
 
@@ -59,6 +75,38 @@ impl From<ProgramFault> for CommandFault {
                 CommandFault::Refused(InputFault::BadProgram { line, what })
             }
             ProgramFault::Memory => CommandFault::Failed(FileFault::Memory),
+        }
+    }
+}
+
+impl From<ScheduleFault> for CommandFault {
+    ghost use Rattle.std.specs.Prelude.{◌≡◌};
+    ghost use Rattle.haloop_run.specs.steps.Inputs.{schedule_refused};
+
+    ghost from_gives = { λ fault it. it ≡ schedule_refused fault };
+
+    fn from(fault: ScheduleFault) -> CommandFault {
+        match fault {
+            ScheduleFault::At { line, what } => {
+                CommandFault::Refused(InputFault::BadSchedule { line, what })
+            }
+            ScheduleFault::Memory => CommandFault::Failed(FileFault::Memory),
+        }
+    }
+}
+
+impl From<CoreFault> for CommandFault {
+    ghost use Rattle.std.specs.Prelude.{◌≡◌};
+    ghost use Rattle.haloop_run.specs.steps.Commands.{run_refused};
+
+    ghost from_gives = { λ fault it. it ≡ run_refused fault };
+
+    fn from(fault: CoreFault) -> CommandFault {
+        match fault {
+            CoreFault::TaskFailed { task } => CommandFault::Stopped(RunFault::TaskFailed { task }),
+            CoreFault::NotBuilt => CommandFault::Stopped(RunFault::Missed),
+            CoreFault::Device(device) => CommandFault::Failed(FileFault::Device(device)),
+            CoreFault::Memory => CommandFault::Failed(FileFault::Memory),
         }
     }
 }

@@ -1,11 +1,15 @@
-ghost use Rattle.std.specs.Prelude.{◌≡◌, Some, IfOk, IfErr, OnOk};
+ghost use Rattle.std.specs.Prelude.{◌≡◌, Some, IfOk, IfErr, IfSome, IsTrue, ◌↔◌};
+ghost use Rattle.std.specs.List.{AllByRecursion};
 ghost use Rattle.std.specs.Option.{option_copied};
 ghost use Rattle.hal_outside.specs.Told.{FileMap};
 ghost use Rattle.hal_outside.specs.Calls.{OnlyReads, Tells};
 ghost use Rattle.plain_job.specs.Fit.{AreRecordsOf, TablesFit};
+ghost use Rattle.run_laws.specs.WithoutLoss as without_loss;
+ghost use Rattle.run_laws.specs.WithoutLoss.{AreQuiet, HasNoCaches};
 ghost use Rattle.haloop_run.specs.declared.fault.InputFault.TheVariants as fault;
-ghost use Rattle.haloop_run.specs.Inputs.{complete, HasSchedule, HasTable, HaveTables, tables_of};
-ghost use Rattle.haloop_run.specs.steps.Inputs.{HasFile, IsProgramOf, Judged, listing, NoFile, NoProgram, NoSchedule, NoTable, OtherSchedule, Stops, StopsAtTable};
+ghost use Rattle.haloop_run.specs.Inputs.{complete, HasSchedule, HasScheduleAt, HasTable, HaveTables, tables_of};
+ghost use Rattle.haloop_run.specs.steps.Inputs.{AsAsked, CanRun, HasFile, IsProgramOf, Judged, listing, NoFile, NoProgram, NoSchedule, NoTable, OtherSchedule, Stops, StopsAtTable};
+ghost use Rattle.haloop_run.specs.steps.Runs.{AreFew};
 ghost use Rattle.haloop_run.specs.steps.Words.{asked_by};
 
 use crate::fault::{CommandFault, InputFault};
@@ -13,12 +17,14 @@ use crate::words::Command;
 use hal_base::{CopyIn, Items, Memory, Records, Schema, TableFault, Tables, Text, read_table};
 use hal_outside::{FileFault, Files};
 use loop_program::{Program, read_program};
+use schedule_text::{Event, Schedule, read_schedule};
 use std::alloc::Global;
 
-/// A program, and the records of each of its tables.
+/// A program, the schedule where one is asked for, and the records of each table of the program.
 #[derive(Drop)]
 pub(crate) struct Accepted {
     pub(crate) program: Program,
+    pub(crate) schedule: Option<Schedule>,
     pub(crate) tables: Tables,
 }
 
@@ -31,18 +37,27 @@ pub(crate) fn accepted_input<F: Files>(
 ) -> Result<Accepted, CommandFault>
     ensures reads { OnlyReads F.Files files.old files.new }
     ensures fit { IfOk result (λ input. TablesFit input.program.shape input.tables) }
-    ensures found { IfOk result (λ input. (told : FileMap) → Tells F.Files files.old told → Judged (asked_by command.now) told (complete input.program input.tables)) }
+    ensures few { IfOk result (λ input. AllByRecursion AreFew input.tables) }
+    ensures caches { IfOk result (λ input. HasNoCaches input.program.shape) }
+    ensures can { IfOk result (λ input. IfSome input.schedule CanRun) }
+    ensures asked { IfOk result (λ input. AsAsked (asked_by command.now).schedule input.schedule) }
+    ensures found { IfOk result (λ input. (told : FileMap) → Tells F.Files files.old told → Judged (asked_by command.now) told (complete input.program input.schedule input.tables)) }
     ensures stops { IfErr result (Stops F.Files files.old files.new (Judged (asked_by command.now))) }
 {
     let program = program_file(alloc, command.program, files)?;
-    read_schedule(alloc, command.schedule, files)?;
+    let schedule = asked_schedule(alloc, command.schedule, files)?;
     let tables = read_tables(alloc, &program, files)?;
-    Ok(Accepted { program, tables })
+    Ok(Accepted {
+        program,
+        schedule,
+        tables,
+    })
 }
 
 /// The program whose text the file of this name has.
 fn program_file<F: Files>(alloc: Global, name: &str, files: &mut F) -> Result<Program, CommandFault>
     ensures reads { OnlyReads F.Files files.old files.new }
+    ensures caches { IfOk result (λ program. HasNoCaches program.shape) }
     ensures found { IfOk result (λ program. (told : FileMap) → Tells F.Files files.old told → IsProgramOf name.now program told) }
     ensures stops { IfErr result (Stops F.Files files.old files.new (NoProgram name.now)) }
 {
@@ -50,32 +65,58 @@ fn program_file<F: Files>(alloc: Global, name: &str, files: &mut F) -> Result<Pr
     Ok(read_program(alloc, text.as_slice())?)
 }
 
-/// Whether the schedule that is asked for is the one that is built.
-fn read_schedule<F: Files>(
+/// The schedule that is asked for, if one is.
+fn asked_schedule<F: Files>(
     alloc: Global,
     asked: Option<&str>,
     files: &mut F,
-) -> Result<(), CommandFault>
+) -> Result<Option<Schedule>, CommandFault>
     ensures reads { OnlyReads F.Files files.old files.new }
-    ensures found { OnOk result ((told : FileMap) → Tells F.Files files.old told → HasSchedule told (option_copied asked.entry)) }
+    ensures can { IfOk result (λ schedule. IfSome schedule CanRun) }
+    ensures asked { IfOk result (AsAsked (option_copied asked.entry)) }
+    ensures found { IfOk result (λ schedule. (told : FileMap) → Tells F.Files files.old told → HasSchedule told (option_copied asked.entry) schedule) }
     ensures stops { IfErr result (Stops F.Files files.old files.new (NoSchedule (option_copied asked.entry))) }
 {
     match asked {
-        Some(name) => judge_schedule(alloc, name, files),
-        None => Ok(()),
+        Some(name) => Ok(Some(schedule_file(alloc, name, files)?)),
+        None => Ok(None),
     }
 }
 
-fn judge_schedule<F: Files>(alloc: Global, name: &str, files: &mut F) -> Result<(), CommandFault>
+/// The schedule whose text the file of this name has.
+fn schedule_file<F: Files>(
+    alloc: Global,
+    name: &str,
+    files: &mut F,
+) -> Result<Schedule, CommandFault>
     ensures reads { OnlyReads F.Files files.old files.new }
-    ensures found { OnOk result ((told : FileMap) → Tells F.Files files.old told → HasSchedule told (Some name.now)) }
+    ensures can { IfOk result CanRun }
+    ensures found { IfOk result (λ schedule. (told : FileMap) → Tells F.Files files.old told → HasScheduleAt told name.now schedule) }
     ensures stops { IfErr result (Stops F.Files files.old files.new (OtherSchedule name.now)) }
 {
     let text = read_file(alloc, name, files)?;
-    if text.as_slice() == b"nodes 1\n".as_slice() {
-        Ok(())
+    let schedule = read_schedule(alloc, text.as_slice())?;
+    if are_quiet(schedule.events.as_slice()) {
+        Ok(schedule)
     } else {
         Err(CommandFault::Refused(InputFault::NotBuilt))
+    }
+}
+
+/// Whether nothing is lost by any of these events.
+fn are_quiet(events: &[Event]) -> bool
+    ensures { IsTrue result ↔ AreQuiet events.now }
+{
+    events.iter().all(|event| is_quiet(*event))
+}
+
+/// Whether nothing is lost by this event: an attempt is done or fails, or a round is waited for.
+fn is_quiet(event: Event) -> bool
+    ensures { result ≡ without_loss.is_quiet event }
+{
+    match event {
+        Event::Done(_) | Event::Fail(_) | Event::Round(_) => true,
+        Event::Lose(_) | Event::Back(_) | Event::Wipe(_) | Event::Busy(_) | Event::Idle(_) => false,
     }
 }
 
@@ -87,6 +128,7 @@ fn read_tables<F: Files>(
 ) -> Result<Tables, CommandFault>
     ensures reads { OnlyReads F.Files files.old files.new }
     ensures fit { IfOk result (TablesFit program.now.shape) }
+    ensures few { IfOk result (AllByRecursion AreFew) }
     ensures found { IfOk result (λ tables. (told : FileMap) → Tells F.Files files.old told → HaveTables told (tables_of program.now) tables) }
     ensures stops { IfErr result (Stops F.Files files.old files.new (StopsAtTable program.now)) }
 {
@@ -110,6 +152,7 @@ fn read_rows<F: Files>(
 ) -> Result<Records, CommandFault>
     ensures reads { OnlyReads F.Files files.old files.new }
     ensures fit { IfOk result (AreRecordsOf schema.now) }
+    ensures few { IfOk result AreFew }
     ensures found { IfOk result (λ rows. (told : FileMap) → Tells F.Files files.old told → HasTable told (listing name.now file.now schema.now) rows) }
     ensures stops { IfErr result (Stops F.Files files.old files.new (NoTable (listing name.now file.now schema.now))) }
 {

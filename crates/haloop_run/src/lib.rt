@@ -6,6 +6,7 @@ mod fault;
 mod input;
 mod lines;
 mod output;
+mod replay;
 mod run;
 mod top;
 mod words;

@@ -2,17 +2,32 @@ ghost use Rattle.std.specs.Prelude.{◌≡◌, ◌++◌, codes, IfOk, OnOk};
 ghost use Rattle.plain_job.specs.Ends.{end_text};
 ghost use Rattle.haloop_run.specs.Lines as lines;
 ghost use Rattle.haloop_run.specs.Lines.{outcome_line, status_of};
+ghost use Rattle.haloop_run.specs.steps.Commands.{line_of_stop, status_of_stop, text_of_done};
 ghost use Rattle.haloop_run.specs.steps.Inputs.{outcome_of};
 
-use crate::fault::InputFault;
+use crate::fault::{InputFault, RunFault};
+use crate::run::Done;
+use counter_report::report_text;
 use hal_base::{LineFault, Memory, TableFault, append_number};
 use loop_program::What;
+use node_names::{Task, task_text};
 use plain_job::End;
+use schedule_text::ScheduleWhat;
 use std::alloc::Global;
 
-/// The lines of a command that is done. docs/FORMATS.md, "Statuses".
-pub(crate) fn report(alloc: Global, rounds: u32, end: End) -> Result<Vec<u8>, Memory>
-    ensures { IfOk result (λ text. text.items ≡ lines.report rounds end) }
+/// The lines of a command that is done. docs/FORMATS.md, "Statuses" and "Reports".
+pub(crate) fn done_text(alloc: Global, done: &Done) -> Result<Vec<u8>, Memory>
+    ensures { IfOk result (λ text. text.items ≡ text_of_done done.now) }
+{
+    match done {
+        Done::Plain { rounds, end } => plain_report(alloc, *rounds, *end),
+        Done::Run(report) => report_text(alloc, report),
+    }
+}
+
+/// The lines of a chain in memory that is done.
+fn plain_report(alloc: Global, rounds: u32, end: End) -> Result<Vec<u8>, Memory>
+    ensures { IfOk result (λ text. text.items ≡ lines.plain_report rounds end) }
 {
     let mut text = Vec::new(alloc);
     append_number(&mut text, b"rounds ", u64::from(rounds))?;
@@ -39,6 +54,7 @@ pub(crate) fn fault_line(alloc: Global, fault: &InputFault) -> Result<Vec<u8>, M
     match fault {
         InputFault::Absent(name) => absent_line(alloc, name.as_slice()),
         InputFault::BadProgram { line, what } => program_line(alloc, *line, *what),
+        InputFault::BadSchedule { line, what } => schedule_line(alloc, *line, *what),
         InputFault::NotBuilt => not_built_line(alloc),
         InputFault::BadTable { name, what } => table_line(alloc, name.as_slice(), *what),
     }
@@ -51,6 +67,7 @@ pub(crate) fn fault_status(fault: &InputFault) -> u8
     match fault {
         InputFault::Absent(_) => 11,
         InputFault::BadProgram { .. } => 2,
+        InputFault::BadSchedule { .. } => 4,
         InputFault::NotBuilt => 12,
         InputFault::BadTable { .. } => 3,
     }
@@ -74,6 +91,59 @@ fn program_line(alloc: Global, line: u64, what: What) -> Result<Vec<u8>, Memory>
     text.extend_from_slice(what_word(what))?;
     text.extend_from_slice(b"\n")?;
     Ok(text)
+}
+
+fn schedule_line(alloc: Global, line: u64, what: ScheduleWhat) -> Result<Vec<u8>, Memory>
+    ensures { IfOk result (λ text. text.items ≡ lines.schedule_line line what) }
+{
+    let mut text = Vec::new(alloc);
+    append_number(&mut text, b"error: schedule line ", line)?;
+    text.extend_from_slice(b": ")?;
+    text.extend_from_slice(schedule_word(what))?;
+    text.extend_from_slice(b"\n")?;
+    Ok(text)
+}
+
+fn schedule_word(what: ScheduleWhat) -> &'static [u8]
+    ensures { result.now ≡ lines.schedule_what_text what }
+{
+    match what {
+        ScheduleWhat::BadWord => b"bad-word",
+        ScheduleWhat::BadNumber => b"bad-number",
+        ScheduleWhat::OutOfRange => b"out-of-range",
+        ScheduleWhat::CopiesAboveNodes => b"copies-above-nodes",
+        ScheduleWhat::Missing => b"missing",
+        ScheduleWhat::Twice => b"twice",
+    }
+}
+
+/// The line of why a run of the cluster is refused. docs/FORMATS.md, "Statuses".
+pub(crate) fn stop_line(alloc: Global, fault: RunFault) -> Result<Vec<u8>, Memory>
+    ensures { IfOk result (λ line. line.items ≡ line_of_stop fault) }
+{
+    match fault {
+        RunFault::TaskFailed { task } => task_line(alloc, &task),
+        RunFault::Missed => not_built_line(alloc),
+    }
+}
+
+/// The status of why a run of the cluster is refused.
+pub(crate) fn stop_status(fault: RunFault) -> u8
+    ensures { result ≡ status_of_stop fault }
+{
+    match fault {
+        RunFault::TaskFailed { .. } => 6,
+        RunFault::Missed => 12,
+    }
+}
+
+fn task_line(alloc: Global, task: &Task) -> Result<Vec<u8>, Memory>
+    ensures { IfOk result (λ line. line.items ≡ lines.task_line task.now) }
+{
+    let mut line = Vec::from_slice(alloc, b"error: task ")?;
+    line.extend_from_slice(task_text(alloc, task)?.as_bytes())?;
+    line.extend_from_slice(b" failed\n")?;
+    Ok(line)
 }
 
 fn what_word(what: What) -> &'static [u8]

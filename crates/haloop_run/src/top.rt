@@ -3,101 +3,127 @@ ghost use Rattle.hal_outside.specs.Told.{FileMap};
 ghost use Rattle.hal_outside.specs.Calls.{AbsentsRose, Changes, CountsStay, FaultsRose, Gains, Tells, WritesFailed};
 ghost use Rattle.plain_job.specs.declared.ending.End.{End};
 ghost use Rattle.haloop_run.specs.Inputs.{ComesTo, Outcome};
+ghost use Rattle.haloop_run.specs.Inputs as input;
 ghost use Rattle.haloop_run.specs.Lines as lines;
 ghost use Rattle.haloop_run.specs.Lines.{outcome_line, status_of};
-ghost use Rattle.haloop_run.specs.Outputs.{Leaves, LeavesPart};
-ghost use Rattle.haloop_run.specs.Statuses.{Answers, GainsDue, InputIs, IsRefusal, IsStatus};
+ghost use Rattle.haloop_run.specs.Outputs.{Leaves};
+ghost use Rattle.haloop_run.specs.Statuses.{Answers, AnswersTo, AreTrue, BeganRun, DiskCountsStay, DisksFailed, GainsDue, InputIs, IsDone, IsMissed, IsRefusal, IsStatus, IsTaskFailed, LeavesSome, TellsEnd};
 ghost use Rattle.haloop_run.specs.Words.{Asked, AskFor, IsUsage, texts};
 ghost use Rattle.haloop_run.specs.steps.Commands.{NoCommand, Performed, Said, done_line, done_status, failed_line, failed_status};
 ghost use Rattle.haloop_run.specs.steps.Words.{asked_by};
 
 use crate::fault::CommandFault;
-use crate::lines::{fault_line, fault_status, report};
-use crate::run::{Ended, perform_command};
+use crate::lines::{done_text, fault_line, fault_status, stop_line, stop_status};
+use crate::run::{Done, perform_command};
 use crate::words::{Command, asked_command};
 use hal_base::Memory;
-use hal_outside::{FileFault, Files, Sink, SinkFault};
+use hal_outside::{Disks, FileFault, Files, Sink, SinkFault};
 use std::alloc::Global;
 
 /// Does what the words ask for, and answers the status.
 ///
-/// `words` are the words after the program's name; files are read from and written to `files`, and the
-/// report or the error line goes to `out`. The statuses and their lines are in docs/FORMATS.md,
-/// "Statuses"; what a program means is in docs/SEMANTICS.md.
-pub fn haloop_top<F: Files, O: Sink>(
+/// `words` are the words after the program's name; files are read from and written to `files`, the files of nodes lie on
+/// `disks`, and the report or the error line goes to `out`. The statuses and their lines are in docs/FORMATS.md,
+/// "Statuses"; what a program means is in docs/SEMANTICS.md, and how a cluster runs it in docs/CLUSTER.md.
+pub fn haloop_top<F: Files, D: Disks, O: Sink>(
     alloc: Global,
     words: &[String],
     files: &mut F,
+    disks: &mut D,
     out: &mut O,
 ) -> u8
     ensures status { IsStatus result }
     ensures counts { CountsStay F.Files files.old files.new }
+    ensures disk_counts { DiskCountsStay D.Disks disks.old disks.new }
     ensures sink_faults_stay { O.faults out.old ≤ O.faults out.new }
 
-    // 0: the input is complete, and only the part files are changed, to the texts of the parts of its chain;
-    // the two lines tell the round in which the chain ends, and how.
-    ensures done { result ≡ 0 → (asked : Asked) × AskFor (texts words.now) asked × (rounds : ℕ) × (end : End)
-        × Changes F.Files (Leaves asked rounds end) files.old files.new × Gains O.Sink out.old (lines.report rounds end) out.new }
+    // 0: where the disks tell and show their damage, only the part files are changed, to the texts of the parts of the chain;
+    // the lines on the sink tell the round in which the chain ends, and how.
+    ensures headline { result ≡ 0 → AreTrue D.Disks disks.old → (asked : Asked) × AskFor (texts words.now) asked × (rounds : ℕ) × (end : End)
+        × Changes F.Files (Leaves asked rounds end) files.old files.new × (line : List ℕ) × TellsEnd asked.schedule rounds end line × Gains O.Sink out.old line out.new }
+    // Whatever the disks tell, `plain` has made no call on them, and `run` is a run of the machine, whose journal its report counts.
+    ensures done { result ≡ 0 → (asked : Asked) × AskFor (texts words.now) asked × (line : List ℕ) × IsDone F.Files D.Disks asked files.old files.new disks.old disks.new line × Gains O.Sink out.old line out.new }
 
-    // 1, and 2, 3, 11 and 12: the words, or what the input comes to, and its line. No file is changed.
+    // 1, and 2, 3, 4 and 11: the words, or what the input comes to, and its line. No file is changed, and no call is made on disks.
     ensures usage { result ≡ 1 → IsUsage (texts words.now) × Gains O.Sink out.old lines.usage_line out.new }
     ensures refused { IsRefusal result → (it : Outcome) × (status_of it ≡ result) × InputIs F.Files (texts words.now) files.old it × Gains O.Sink out.old (outcome_line it) out.new }
     ensures absents_rose { result ≡ 11 → AbsentsRose F.Files files.old files.new }
-    ensures kept { (result ≡ 1) ⊎ IsRefusal result → F.told files.new ≡ F.told files.old }
+    ensures no_calls { (result ≡ 1) ⊎ IsRefusal result → disks.new ≡ disks.old }
+
+    // 6 and 12: a task failed too often in a run of the machine; or a read missed in it, or the schedule has an event that is
+    // not built. No file is changed.
+    ensures task_failed { result ≡ 6 → (asked : Asked) × AskFor (texts words.now) asked × (line : List ℕ) × IsTaskFailed F.Files D.Disks asked files.old disks.old disks.new line × Gains O.Sink out.old line out.new }
+    ensures not_built { result ≡ 12 → ((disks.new ≡ disks.old) × InputIs F.Files (texts words.now) files.old input.not_built × Gains O.Sink out.old lines.not_built_line out.new)
+        ⊎ ((asked : Asked) × AskFor (texts words.now) asked × (line : List ℕ) × IsMissed F.Files D.Disks asked files.old disks.old disks.new line × Gains O.Sink out.old line out.new) }
+    ensures kept { (result ≡ 1) ⊎ (result ≡ 6) ⊎ (result ≡ 12) ⊎ IsRefusal result → F.told files.new ≡ F.told files.old }
 
     // 8 and 10: a count of faults rose, or memory ran out, which no clause ties to anything. Where the sink
-    // failed, it has a prefix of the line that was due; the files have the first of the part files, or none.
-    ensures device { result ≡ 8 → FaultsRose F.Files files.old files.new ⊎ WritesFailed O.Sink out.old out.new }
-    ensures device_said { result ≡ 8 → (FaultsRose F.Files files.old files.new × Gains O.Sink out.old lines.device_line out.new)
-        ⊎ (WritesFailed O.Sink out.old out.new × GainsDue F.Files O.Sink (texts words.now) files.old files.new out.old out.new) }
-    ensures memory_said { result ≡ 10 → GainsDue F.Files O.Sink (texts words.now) files.old files.new out.old out.new }
+    // failed, it has a prefix of the line that was due; the files have the first of the part files, or none; the calls on
+    // disks are the first of a run of the machine, or none.
+    ensures device { result ≡ 8 → FaultsRose F.Files files.old files.new ⊎ DisksFailed D.Disks disks.old disks.new ⊎ WritesFailed O.Sink out.old out.new }
+    ensures device_said { result ≡ 8 → ((FaultsRose F.Files files.old files.new ⊎ DisksFailed D.Disks disks.old disks.new) × Gains O.Sink out.old lines.device_line out.new)
+        ⊎ (WritesFailed O.Sink out.old out.new × GainsDue F.Files D.Disks O.Sink (texts words.now) files.old files.new disks.old disks.new out.old out.new) }
+    ensures memory_said { result ≡ 10 → GainsDue F.Files D.Disks O.Sink (texts words.now) files.old files.new disks.old disks.new out.old out.new }
     ensures partly { (result ≡ 8) ⊎ (result ≡ 10) → (F.told files.new ≡ F.told files.old)
-        ⊎ ((asked : Asked) × AskFor (texts words.now) asked × Changes F.Files (LeavesPart asked) files.old files.new) }
+        ⊎ ((asked : Asked) × AskFor (texts words.now) asked × LeavesSome F.Files D.Disks asked files.old files.new disks.old) }
+    ensures began { (result ≡ 8) ⊎ (result ≡ 10) → (disks.new ≡ disks.old) ⊎ ((asked : Asked) × AskFor (texts words.now) asked × BeganRun F.Files D.Disks asked files.old disks.old disks.new) }
 
-    // The other direction: what the words and the files come to is answered, but for 8 and 10.
+    // The other direction: what the words and the files come to is answered, but for 8 and 10; a run may yet be refused.
     ensures usage_answered { IsUsage (texts words.now) → Answers 1 result }
-    ensures answered { (told : FileMap) → Tells F.Files files.old told → (asked : Asked) (it : Outcome) → AskFor (texts words.now) asked → ComesTo told asked it → Answers (status_of it) result }
+    ensures answered { (told : FileMap) → Tells F.Files files.old told → (asked : Asked) (it : Outcome) → AskFor (texts words.now) asked → ComesTo told asked it → AnswersTo it result }
 {
-    perform(alloc, words, files, out)
+    perform(alloc, words, files, disks, out)
 }
 
 /// The same in one clause.
-fn perform<F: Files, O: Sink>(alloc: Global, words: &[String], files: &mut F, out: &mut O) -> u8
+fn perform<F: Files, D: Disks, O: Sink>(
+    alloc: Global,
+    words: &[String],
+    files: &mut F,
+    disks: &mut D,
+    out: &mut O,
+) -> u8
     ensures counts { CountsStay F.Files files.old files.new }
+    ensures disk_counts { DiskCountsStay D.Disks disks.old disks.new }
     ensures sink_faults_stay { O.faults out.old ≤ O.faults out.new }
-    ensures performed { Performed F.Files O.Sink (texts words.now) files.old files.new out.old out.new result
-        ⊎ NoCommand F.Files O.Sink (texts words.now) files.old files.new out.old out.new result }
+    ensures performed { Performed F.Files D.Disks O.Sink (texts words.now) files.old files.new disks.old disks.new out.old out.new result
+        ⊎ NoCommand F.Files O.Sink (texts words.now) files.old files.new disks.old disks.new out.old out.new result }
 {
     match asked_command(words) {
-        Some(command) => do_command(alloc, &command, files, out),
+        Some(command) => do_command(alloc, &command, files, disks, out),
         None => tell(out, USAGE, 1),
     }
 }
 
 /// Does what the words ask for, and answers the status.
-fn do_command<F: Files, O: Sink>(
+fn do_command<F: Files, D: Disks, O: Sink>(
     alloc: Global,
     command: &Command<'_>,
     files: &mut F,
+    disks: &mut D,
     out: &mut O,
 ) -> u8
     ensures counts { CountsStay F.Files files.old files.new }
+    ensures disk_counts { DiskCountsStay D.Disks disks.old disks.new }
     ensures sink_faults_stay { O.faults out.old ≤ O.faults out.new }
-    ensures performed { (words : List (List ℕ)) → AskFor words (asked_by command.now) → Performed F.Files O.Sink words files.old files.new out.old out.new result }
+    ensures performed { (words : List (List ℕ)) → AskFor words (asked_by command.now) → Performed F.Files D.Disks O.Sink words files.old files.new disks.old disks.new out.old out.new result }
 {
-    let done = perform_command(alloc, command, files);
+    let done = perform_command(alloc, command, files, disks);
     say(alloc, &done, out)
 }
 
 /// Writes the lines of what was done, and answers the status.
-fn say<O: Sink>(alloc: Global, done: &Result<Ended, CommandFault>, out: &mut O) -> u8
+fn say<O: Sink>(alloc: Global, done: &Result<Done, CommandFault>, out: &mut O) -> u8
     ensures sink_faults_stay { O.faults out.old ≤ O.faults out.new }
     ensures said { Said O.Sink (done_status done.now) (done_line done.now) out.old out.new result }
 {
     match done {
-        Ok(ended) => tell_made(out, &report(alloc, ended.rounds, ended.end), 0),
+        Ok(done) => tell_made(out, &done_text(alloc, done), 0),
         Err(CommandFault::Refused(fault)) => {
             tell_made(out, &fault_line(alloc, fault), fault_status(fault))
+        }
+        Err(CommandFault::Stopped(fault)) => {
+            tell_made(out, &stop_line(alloc, *fault), stop_status(*fault))
         }
         Err(CommandFault::Failed(fault)) => say_failed(*fault, out),
     }

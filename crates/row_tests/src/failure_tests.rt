@@ -1,8 +1,9 @@
-// The top call over files and a sink of which one call fails.
+// The top call over files, disks and a sink of which one call fails, and over disks that lose a file.
 use crate::failing::{FailingFiles, FailingSink};
 use hal_base::Memory;
-use hal_outside::{MemFiles, MemSink};
+use hal_outside::{Act, Acts, MemDisks, MemFiles, MemSink, ScriptDisks};
 use haloop_run::haloop_top;
+use node_names::{Name, NameKind};
 use std::alloc::{AllocError, Global};
 use std::test::Fail;
 
@@ -17,13 +18,24 @@ const FOLDER: &[(&str, &[u8])] = &[
     ("links.tsv", b"1\t2\n2\t3\n"),
 ];
 
-/// The words that run this program.
-fn words_of(alloc: Global, program: &str) -> Result<Vec<String>, AllocError> {
+/// The report of this program on one node.
+const REPORT: &[u8] =
+    b"rounds 3\nend fixpoint\nmaps 17\nreduces 12\ntests 2\nfails 0\nkills 0\nstarved 0\ndropped 0\nskipped 0\nstruck 0\nlocal 59\nremote 0\nric 0\nmic 0\nroc 0\n";
+
+/// How many calls on disks its run makes.
+const CALLS: u64 = 110;
+
+fn words_from(alloc: Global, texts: &[&str]) -> Result<Vec<String>, AllocError> {
     let mut words = Vec::new(alloc);
-    for text in ["run", program, "s.txt", "out"] {
+    for text in texts {
         words.push(String::from_str(alloc, text)?)?;
     }
     Ok(words)
+}
+
+/// The words that run this program.
+fn words_of(alloc: Global, program: &str) -> Result<Vec<String>, AllocError> {
+    words_from(alloc, &["run", program, "s.txt", "out"])
 }
 
 fn folder_of(alloc: Global) -> Result<MemFiles, Memory> {
@@ -44,8 +56,9 @@ fn left_after(alloc: Global, failing: u64) -> Result<(u8, bool, bool, bool), Fai
         calls: 0,
         faults: 0,
     };
+    let mut disks = MemDisks::new(alloc);
     let mut sink = MemSink::new(alloc);
-    let status = haloop_top(alloc, words.as_slice(), &mut files, &mut sink);
+    let status = haloop_top(alloc, words.as_slice(), &mut files, &mut disks, &mut sink);
     Ok((
         status,
         sink.bytes() == line_of(status),
@@ -54,13 +67,32 @@ fn left_after(alloc: Global, failing: u64) -> Result<(u8, bool, bool, bool), Fai
     ))
 }
 
-/// What is said with a status of 0 or 8.
+/// What is said with this status.
 fn line_of(status: u8) -> &'static [u8] {
-    if status == 0 {
-        b"rounds 3\nend fixpoint\n"
-    } else {
-        b"error: device\n"
+    match status {
+        0 => REPORT,
+        12 => b"error: form not built\n",
+        _ => b"error: device\n",
     }
+}
+
+/// What is left where this goes wrong on disks: the status, whether the line is that of the status, and whether there is a
+/// part file.
+fn left_under(alloc: Global, act: Act) -> Result<(u8, bool, bool), Fail> {
+    let words = words_of(alloc, "p.hal")?;
+    let mut files = folder_of(alloc)?;
+    let mut disks = disks_under(alloc, act)?;
+    let mut sink = MemSink::new(alloc);
+    let status = haloop_top(alloc, words.as_slice(), &mut files, &mut disks, &mut sink);
+    let is_line = sink.bytes() == line_of(status);
+    let has_part = files.bytes("out/part-00000").is_some();
+    Ok((status, is_line, has_part))
+}
+
+fn disks_under(alloc: Global, act: Act) -> Result<ScriptDisks, Memory> {
+    let mut acts = Acts::new(alloc);
+    acts.push(act)?;
+    Ok(ScriptDisks::new(MemDisks::new(alloc), acts))
 }
 
 /// What is left where the first write to the sink fails: the status, how much was said, and whether there is a part file.
@@ -73,7 +105,8 @@ fn left_unsaid(alloc: Global, program: &str) -> Result<(u8, usize, bool), Fail> 
         calls: 0,
         faults: 0,
     };
-    let status = haloop_top(alloc, words.as_slice(), &mut files, &mut sink);
+    let mut disks = MemDisks::new(alloc);
+    let status = haloop_top(alloc, words.as_slice(), &mut files, &mut disks, &mut sink);
     let has_part = files.bytes("out/part-00000").is_some();
     Ok((status, sink.sink.bytes().len(), has_part))
 }
@@ -95,6 +128,64 @@ fn failures_of_files(rt: HostRuntime) -> Result<(), Fail> {
             "after {failing} calls"
         );
     }
+    Ok(())
+}
+
+// Each call on disks, from the first wipe to the last read of a part. One call fails, so a body that tried again would be
+// done.
+#[test]
+fn failures_of_disks(rt: HostRuntime) -> Result<(), Fail> {
+    for call in 1..CALLS + 1 {
+        assert!(rt;
+            left_under(rt.alloc(), Act::FailAt(call))? == (8, true, false),
+            "call {call}"
+        );
+    }
+    assert!(rt; left_under(rt.alloc(), Act::FailAt(CALLS + 1))? == (0, true, true));
+    Ok(())
+}
+
+// Files that were spoilt when they were written, and are then read; and one that there is not.
+#[test]
+fn files_that_are_missed(rt: HostRuntime) -> Result<(), Fail> {
+    let alloc = rt.alloc();
+    for kind in [NameKind::Blk, NameKind::Spill, NameKind::Out] {
+        assert!(rt; left_under(alloc, Act::SpoilKind(kind))? == (12, true, false));
+    }
+    for (name, left) in [
+        (Name::Blk { table: 1, block: 0 }, (12, true, false)),
+        (
+            Name::Out {
+                round: 3,
+                step: 2,
+                part: 1,
+            },
+            (12, true, false),
+        ),
+        (
+            Name::Out {
+                round: 4,
+                step: 1,
+                part: 0,
+            },
+            (0, true, true),
+        ),
+    ] {
+        assert!(rt; left_under(alloc, Act::SpoilFirst { node: 0, name })? == left);
+    }
+    Ok(())
+}
+
+// `plain` is done where the first call on disks would fail.
+#[test]
+fn plain_makes_no_call_on_disks(rt: HostRuntime) -> Result<(), Fail> {
+    let alloc = rt.alloc();
+    let words = words_from(alloc, &["plain", "p.hal", "out"])?;
+    let mut files = folder_of(alloc)?;
+    let mut disks = disks_under(alloc, Act::FailAt(1))?;
+    let mut sink = MemSink::new(alloc);
+    let status = haloop_top(alloc, words.as_slice(), &mut files, &mut disks, &mut sink);
+    assert!(rt; status == 0 && sink.bytes() == b"rounds 3\nend fixpoint\n".as_slice());
     Ok(())
 }
 

@@ -17,11 +17,18 @@ use Rattle.program_sketch.specs.declared.fault.ProgramFault.TheVariants.{At, Mem
 use Rattle.loop_program.specs.Programs.{IsJustProgram, IsRefusedBy}
 use Rattle.loop_program.specs.Whole.{Whole}
 use Rattle.haloop_run.specs.declared.fault.InputFault.{InputFault}
-use Rattle.haloop_run.specs.declared.fault.InputFault.TheVariants.{Absent, BadProgram, NotBuilt, BadTable}
+use Rattle.haloop_run.specs.declared.fault.InputFault.TheVariants.{Absent, BadProgram, BadSchedule, NotBuilt, BadTable}
 use Rattle.haloop_run.specs.declared.fault.CommandFault.{CommandFault}
-use Rattle.haloop_run.specs.declared.fault.CommandFault.TheVariants.{Refused, Failed}
+use Rattle.haloop_run.specs.declared.fault.CommandFault.TheVariants.{Refused, Stopped, Failed}
+use Rattle.run_laws.specs.WithoutLoss.{AreQuiet}
+use Rattle.schedule_text.specs.Faults.{HasFault}
+use Rattle.schedule_text.specs.Schedules.{IsTextOf, KeepsLimits}
+use Rattle.schedule_text.specs.declared.fault.ScheduleFault.{ScheduleFault}
+use Rattle.schedule_text.specs.declared.fault.ScheduleFault.TheVariants as schedule
+use Rattle.schedule_text.specs.declared.fault.ScheduleWhat.{ScheduleWhat}
+use Rattle.schedule_text.specs.declared.schedule.Schedule.{Schedule}
 use Rattle.haloop_run.specs.Words.{Asked}
-use Rattle.haloop_run.specs.Inputs.{Outcome, absent, bad_program, not_built, bad_table, ComesTo, HaveTables, Listed, schedule_text, tables_of}
+use Rattle.haloop_run.specs.Inputs.{Outcome, absent, bad_program, bad_schedule, not_built, bad_table, ComesTo, HaveTables, Listed, tables_of}
 use Rattle.haloop_run.specs.Lines.{status_of}
 
 -- ---- why a step stops
@@ -30,6 +37,7 @@ use Rattle.haloop_run.specs.Lines.{status_of}
 abbrev pub outcome_of : InputFault → Outcome
 outcome_of (Absent name) = absent name
 outcome_of (BadProgram line what) = bad_program line what
+outcome_of (BadSchedule line what) = bad_schedule line what
 outcome_of NotBuilt = not_built
 outcome_of (BadTable name what) = bad_table name what
 
@@ -37,6 +45,7 @@ outcome_of (BadTable name what) = bad_table name what
 abbrev pub AtAbsent : InputFault → Type 0 → Type 0
 AtAbsent (Absent name) p = p
 AtAbsent (BadProgram line what) p = Unit {0}
+AtAbsent (BadSchedule line what) p = Unit {0}
 AtAbsent NotBuilt p = Unit {0}
 AtAbsent (BadTable name what) p = Unit {0}
 
@@ -45,9 +54,15 @@ abbrev pub program_refused : ProgramFault → CommandFault
 program_refused (At line what) = Refused (BadProgram line what)
 program_refused Memory = Failed file.Memory
 
+-- the same of one whose schedule is refused
+abbrev pub schedule_refused : ScheduleFault → CommandFault
+schedule_refused (schedule.At line what) = Refused (BadSchedule line what)
+schedule_refused schedule.Memory = Failed file.Memory
+
 -- why a step stops: what the files told comes to this by P, or a device failed; and where a file is absent, a read found none
 abbrev pub Stops : {F : Type 0} → Ghosts F → F → F → (FileMap → Outcome → Type 0) → CommandFault → Type 0
 Stops g old new P (Refused fault) = ((told : FileMap) → Tells g old told → P told (outcome_of fault)) × AtAbsent fault (AbsentsRose g old new)
+Stops g old new P (Stopped fault) = ⊥
 Stops g old new P (Failed fault) = AtFileDevice fault (FaultsRose g old new)
 
 -- ---- what the steps find
@@ -75,9 +90,27 @@ abbrev pub NoProgram : List ℕ → FileMap → Outcome → Type 0
 NoProgram name files it =
     NoFile name files it ⊎ ((text : List ℕ) × HasFile name text files × (line : ℕ) × (what : What) × IsRefusedBy text (At line what) × (it ≡ bad_program line what))
 
--- the file of this name is not there, or has another schedule
+-- a schedule within its limits, in which nothing is lost
+pub record CanRun (schedule : Schedule) : Type 0 where
+  pub limits : KeepsLimits schedule
+  pub quiet : AreQuiet schedule.events
+
+-- there is a schedule exactly where one is asked for
+abbrev pub AsAsked : Option (List ℕ) → Option Schedule → Type 0
+AsAsked None None = Unit {0}
+AsAsked None (Some schedule) = ⊥
+AsAsked (Some name) None = ⊥
+AsAsked (Some name) (Some schedule) = Unit {0}
+
+-- something is wrong with this text of a schedule, or something is lost in it
+abbrev pub IsRefusedSchedule : List ℕ → Outcome → Type 0
+IsRefusedSchedule text it =
+    ((line : ℕ) × (what : ScheduleWhat) × HasFault text (schedule.At line what) × (it ≡ bad_schedule line what))
+    ⊎ ((schedule : Schedule) × IsTextOf text schedule × (AreQuiet schedule.events → ⊥) × (it ≡ not_built))
+
+-- the file of this name is not there, or has a schedule that is refused
 abbrev pub OtherSchedule : List ℕ → FileMap → Outcome → Type 0
-OtherSchedule name files it = NoFile name files it ⊎ ((text : List ℕ) × HasFile name text files × (text ≢ schedule_text) × (it ≡ not_built))
+OtherSchedule name files it = NoFile name files it ⊎ ((text : List ℕ) × HasFile name text files × IsRefusedSchedule text it)
 
 -- a schedule is asked for that is not there, or another one
 abbrev pub NoSchedule : Option (List ℕ) → FileMap → Outcome → Type 0

@@ -14,14 +14,14 @@ returns-in_err-program-clause-stops g c =
     (stops_later files c.args.files.now c.args.files.now c.program_file.new.files (NoProgram asked.program) (Judged asked) c.in_err-program.field-0.0
     (reads_none files c.args.files.now) (λ told t it n. judged_program asked told it n) c.in_err-program.ensures.stops)
 
-pub returns-in_err-read_schedule-clause-stops : goal.returns-in_err-read_schedule-clause-stops
-returns-in_err-read_schedule-clause-stops g c =
+pub returns-in_err-schedule-clause-stops : goal.returns-in_err-schedule-clause-stops
+returns-in_err-schedule-clause-stops g c =
     let files = g.F.Files in
     let asked = asked_by c.args.command.now in
-    let r = err_from_is_err_and c.from_residual-in_err-read_schedule.result c.from_residual-in_err-read_schedule.ensures.1 in
+    let r = err_from_is_err_and c.from_residual-in_err-schedule.result c.from_residual-in_err-schedule.ensures.1 in
     rw (r.1, r.2)
-    (stops_later files c.args.files.now c.program_file.new.files c.read_schedule.new.files (NoSchedule asked.schedule) (Judged asked) c.in_err-read_schedule.field-0.0
-    c.in_ok-program.ensures.reads (λ told t it n. judged_schedule asked told c.in_ok-program.program (c.in_ok-program.ensures.found told t) it n) c.in_err-read_schedule.ensures.stops)
+    (stops_later files c.args.files.now c.program_file.new.files c.asked_schedule.new.files (NoSchedule asked.schedule) (Judged asked) c.in_err-schedule.field-0.0
+    c.in_ok-program.ensures.reads (λ told t it n. judged_schedule asked told c.in_ok-program.program (c.in_ok-program.ensures.found told t) it n) c.in_err-schedule.ensures.stops)
 
 pub returns-in_err-tables-clause-stops : goal.returns-in_err-tables-clause-stops
 returns-in_err-tables-clause-stops g c =
@@ -30,11 +30,11 @@ returns-in_err-tables-clause-stops g c =
     let program = c.in_ok-program.program in
     let r = err_from_is_err_and c.from_residual-in_err-tables.result c.from_residual-in_err-tables.ensures.1 in
     rw (r.1, r.2)
-    (stops_later files c.args.files.now c.read_schedule.new.files c.read_tables.new.files (StopsAtTable program) (Judged asked) c.in_err-tables.field-0.0
-    (reads_then files c.args.files.now c.program_file.new.files c.read_schedule.new.files c.in_ok-program.ensures.reads c.in_ok-read_schedule.ensures.reads)
+    (stops_later files c.args.files.now c.asked_schedule.new.files c.read_tables.new.files (StopsAtTable program) (Judged asked) c.in_err-tables.field-0.0
+    (reads_then files c.args.files.now c.program_file.new.files c.asked_schedule.new.files c.in_ok-program.ensures.reads c.in_ok-schedule.ensures.reads)
     (λ told t it s.
-    judged_table asked told program (c.in_ok-program.ensures.found told t)
-    (c.in_ok-read_schedule.ensures.found told (told_later files c.args.files.now c.program_file.new.files told c.in_ok-program.ensures.reads t)) it s)
+    judged_table asked told program (c.in_ok-program.ensures.found told t) c.in_ok-schedule.schedule
+    (c.in_ok-schedule.ensures.found told (told_later files c.args.files.now c.program_file.new.files told c.in_ok-program.ensures.reads t)) it s)
     c.in_err-tables.ensures.stops)
 
 pub returns-clause-found : goal.returns-clause-found
@@ -42,5 +42,5 @@ returns-clause-found g c = λ told t.
     let files = g.F.Files in
     let asked = asked_by c.args.command.now in
     let t' = told_later files c.args.files.now c.program_file.new.files told c.in_ok-program.ensures.reads t in
-    let t'' = told_later files c.program_file.new.files c.read_schedule.new.files told c.in_ok-read_schedule.ensures.reads t' in
-    judged_complete asked told c.in_ok-program.program (c.in_ok-program.ensures.found told t) (c.in_ok-read_schedule.ensures.found told t') c.in_ok-tables.tables (c.in_ok-tables.ensures.found told t'')
+    let t'' = told_later files c.program_file.new.files c.asked_schedule.new.files told c.in_ok-schedule.ensures.reads t' in
+    judged_complete asked told c.in_ok-program.program (c.in_ok-program.ensures.found told t) c.in_ok-schedule.schedule (c.in_ok-schedule.ensures.found told t') c.in_ok-tables.tables (c.in_ok-tables.ensures.found told t'')

@@ -6,7 +6,7 @@ use Rattle.loop_program.specs.Whole.{Whole}
 use Rattle.haloop_run.specs.Inputs.{tables_of}
 use Rattle.haloop_run.specs.steps.Inputs.{NoTable, StopsAtTable, listing}
 use Rattle.haloop_run.proofs.Stopping.{reads_then, stops_later, told_later}
-use Rattle.haloop_run.proofs.Tables.{at_table, fit_all, fit_one_more, have_all, have_one_more, no_table_at, table_at}
+use Rattle.haloop_run.proofs.Tables.{at_table, few_more, fit_all, fit_one_more, have_all, have_one_more, no_table_at, table_at}
 use Rattle.haloop_run.proofs.input.read_tables.Goals as goal
 
 pub returns-in_err-rows-clause-stops : goal.returns-in_err-rows-clause-stops
@@ -20,7 +20,7 @@ returns-in_err-rows-clause-stops g c =
     let r = err_from_is_err_and c.from_residual.result c.from_residual.ensures.1 in
     rw (r.1, r.2)
     (stops_later files c.args.files.now c.tables.files c.read_rows.new.files (NoTable table) (StopsAtTable program) c.in_err-rows.field-0.0 so_far.0
-    (λ told t it n. at_table program (drop (c.tables.at + 1) (tables_of program)) c.tables.at table first c.tables.tables told (so_far.2 told t) it n)
+    (λ told t it n. at_table program (drop (c.tables.at + 1) (tables_of program)) c.tables.at table first c.tables.tables told (so_far.3 told t) it n)
     c.in_err-rows.ensures.stops)
 
 pub tables-preserved : goal.tables-preserved
@@ -33,8 +33,9 @@ tables-preserved g c =
     let so_far = c.tables.invariant in (
       reads_then files c.args.files.now c.tables.files c.read_rows.new.files so_far.0 c.in_ok-rows.ensures.reads,
       fit_one_more c.as_slice-schema-items.result.now c.tables.at c.schema-item.result c.in_ok-rows.rows c.tables.tables c.push.new.self c.tables-test.true c.schema-item.is c.in_ok-rows.ensures.fit c.in_ok-push.ensures.ok so_far.1,
+      few_more c.tables.tables c.push.new.self c.in_ok-rows.rows c.in_ok-push.ensures.ok so_far.2 c.in_ok-rows.ensures.few,
       λ told t.
-          have_one_more (tables_of program) (drop (c.tables.at + 1) (tables_of program)) c.tables.at table first c.tables.tables c.push.new.self c.in_ok-rows.rows c.in_ok-push.ensures.ok told (so_far.2 told t)
+          have_one_more (tables_of program) (drop (c.tables.at + 1) (tables_of program)) c.tables.at table first c.tables.tables c.push.new.self c.in_ok-rows.rows c.in_ok-push.ensures.ok told (so_far.3 told t)
           (c.in_ok-rows.ensures.found told (told_later files c.args.files.now c.tables.files told so_far.0 t)),
     )
 
@@ -48,4 +49,4 @@ returns-clause-found g c = λ told t.
     let program = c.args.program.now in
     have_all (tables_of program) c.tables.at c.tables.tables told
     (no_table_at _ program c.program.view_is c.program.invariant c.as_slice-names.result.now c.as_slice-paths.result.now c.as_slice-schema-items.result.now c.as_slice-names.ensures c.as_slice-paths.ensures c.as_slice-schema-items.ensures c.tables.at c.tables-test.false)
-    (c.tables.invariant.2 told t)
+    (c.tables.invariant.3 told t)
