@@ -9,6 +9,7 @@ trap 'rm -rf "$work"' EXIT
 trap 'exit 1' HUP INT TERM
 
 for source in "$here"/*.rs; do
+    [ -f "$source" ] || continue
     rustc -O --edition 2021 -o "$work/$(basename "$source" .rs)" "$source"
 done
 

@@ -11,17 +11,7 @@ crate=haloop
 . "$here/../measure.sh"
 
 # inline.rs has the same program as data.
-cat >"$work/program" <<'END'
-program hops;
-parts 2;
-rounds 100;
-stop exact;
-table start "start.tsv" (int, int);
-table links "links.tsv" (int, int);
-begin start;
-step { state by same; table links by same; reduce hop; }
-step { prev by same; table start by same; reduce least; }
-END
+cp "$here/hops.hal" "$work/program"
 printf '1\t0\n' >"$work/start.tsv"
 
 start=start.tsv
