@@ -1,6 +1,6 @@
 -- Files that are written, one after another.
 use Rattle.std.proofs.Common.{Result, Ok, Err, OnErr, ◌≡◌, ◌<◌, ◌≤◌, ◌+◌, ◌-◌, arith, ℕ, List, [], ◌∷◌, ◌++◌, map, refl, sym, ap, subst, ◌∙◌, IsSome, Option}
-use Rattle.std.specs.List.{AllByRecursion, flat_map, range_with_len}
+use Rattle.std.specs.List.{flat_map, range_with_len}
 use Rattle.loop_scheduler.proofs.Ranges.{from_on, none_on, one_on}
 use Rattle.run_model.specs.Lists.{below}
 use Rattle.std.proofs.lemmas.List.{append-nil, append_assoc}
@@ -12,22 +12,13 @@ use Rattle.node_names.specs.declared.name.Name.{Name}
 use Rattle.valid_copies.specs.Readings.{IsTextOf}
 use Rattle.replica_table.specs.Copies.{Replicas}
 use Rattle.valid_copies.proofs.Written.{some_later, some_one, some_sooner, wrote_more, wrote_none}
+use Rattle.valid_copies.proofs.Adding.{all_back, all_front}
 use Rattle.valid_copies.specs.Calls.{AddedAtMost}
 use Rattle.valid_copies.specs.Stands.{Stands}
 use Rattle.valid_copies.specs.Writes.{FileWrite, Wrote, write_at}
 use Rattle.cluster_core.specs.Disks.{Leaves}
 use Rattle.cluster_core.specs.Filling.{Filled, FilledSome, HasItsText}
 use Rattle.cluster_core.proofs.DisksLeft.{leaves_more, leaves_none, not_missed_more}
-
--- ---- lists
-
-pub all_front : {A : Type 0} (P : A → Type 0) (xs ys : List A) → AllByRecursion P (xs ++ ys) → AllByRecursion P xs
-all_front P [] ys h = tt
-all_front P (x ∷ xs) ys h = (h.0, all_front P xs ys h.1)
-
-pub all_back : {A : Type 0} (P : A → Type 0) (xs ys : List A) → AllByRecursion P (xs ++ ys) → AllByRecursion P ys
-all_back P [] ys h = h
-all_back P (x ∷ xs) ys h = all_back P xs ys h.1
 
 -- ---- what is filled
 

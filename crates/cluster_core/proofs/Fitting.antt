@@ -12,7 +12,7 @@ use Rattle.plain_job.proofs.Tables.{table_there}
 use Rattle.record_blocks.specs.Blocks.{block_text}
 use Rattle.run_model.specs.State.{Setup}
 use Rattle.cluster_core.specs.Filling.{block_files, block_rows, copies_of, text_in}
-use Rattle.cluster_core.proofs.Fillings.{all_back, all_front}
+use Rattle.valid_copies.proofs.Adding.{all_back, all_front}
 
 -- there are as many tables as schemas
 pub as_many : (schemas : List Schema) (tables : List (List Record)) → AreTablesOf schemas tables → length tables ≡ length schemas

@@ -20,6 +20,7 @@ pub mod Needs
 pub mod NewValues
 pub mod Nodes
 pub mod Onward
+pub mod Origins
 pub mod PartLoops
 pub mod PartReads
 pub mod Places

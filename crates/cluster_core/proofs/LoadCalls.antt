@@ -18,14 +18,13 @@ use Rattle.run_model.specs.Runs.{block_writes, load, loaded}
 use Rattle.run_model.specs.State.{Setup}
 use Rattle.valid_copies.proofs.Coming.{added_more}
 use Rattle.valid_copies.proofs.PlanWrites.{copies_planned, planned}
-use Rattle.valid_copies.proofs.Rightly.{right_added}
+use Rattle.valid_copies.proofs.Adding.{all_front, such_added}
 use Rattle.valid_copies.proofs.Steps.{text_is}
 use Rattle.valid_copies.specs.Calls.{Added, AreAnswered, Begun, Follows, Leads, made_of}
 use Rattle.valid_copies.specs.RightCalls.{IsRightCall, RightCalls}
 use Rattle.valid_copies.specs.Writes.{FileWrite, IsNextWrite, WroteSome, table_with, write_of}
 use Rattle.cluster_core.specs.Filling.{AddedSome, HasItsText, block_bytes, block_files, copy_of, empty_table, load_calls, load_files, table_files}
 use Rattle.cluster_core.specs.Loading.{IsLoaded}
-use Rattle.cluster_core.proofs.Fillings.{all_front}
 
 -- ---- some of the calls
 
@@ -150,7 +149,7 @@ stopped_begun (Err b) setup tables before after h = load_begun setup tables befo
 pub any_texts : {A B : Type 0} (result : Result A B) (w : World) (setup : Setup) (tables : List (List Record)) (before after : Option DiskTold) → AllByRecursion (HasItsText w) (load_files setup tables)
     → OnOk result (Added before (load_calls setup tables) after) → OnErr result (AddedSome (load_calls setup tables) before after) → OnTold (RightCalls w) before after
 any_texts (Ok a) w setup tables before after t done some =
-    right_added w before after (load_calls setup tables) done (all_both (IsRightCall w) (map disk.Wipe (below setup.schedule.nodes)) (map write_of (load_files setup tables)) (wipes_texts w (below setup.schedule.nodes)) (texts_of w (load_files setup tables) t))
+    such_added (IsRightCall w) before after (load_calls setup tables) done (all_both (IsRightCall w) (map disk.Wipe (below setup.schedule.nodes)) (map write_of (load_files setup tables)) (wipes_texts w (below setup.schedule.nodes)) (texts_of w (load_files setup tables) t))
 any_texts (Err b) w setup tables before after t done some =
     let all = all_both (IsRightCall w) (map disk.Wipe (below setup.schedule.nodes)) (map write_of (load_files setup tables)) (wipes_texts w (below setup.schedule.nodes)) (texts_of w (load_files setup tables) t) in
-    right_added w before after some.calls some.added (all_front (IsRightCall w) some.calls some.left (subst (AllByRecursion (IsRightCall w)) (sym some.whole) all))
+    such_added (IsRightCall w) before after some.calls some.added (all_front (IsRightCall w) some.calls some.left (subst (AllByRecursion (IsRightCall w)) (sym some.whole) all))

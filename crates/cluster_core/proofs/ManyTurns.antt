@@ -19,6 +19,9 @@ use Rattle.valid_copies.specs.Calls.{Added, Begun, Follows, Leads, MissedIn, mad
 use Rattle.valid_copies.proofs.Coming.{added_more}
 use Rattle.name_values.specs.Values.{World}
 use Rattle.valid_copies.proofs.Rightly.{works_more}
+use Rattle.valid_copies.proofs.WrittenCalls.{ask_more}
+use Rattle.valid_copies.specs.LastWrites.{AsksByDigests, KeepsDigests}
+use Rattle.cluster_core.specs.Origins.{AreAnswers, MadeOfReads}
 use Rattle.valid_copies.proofs.Following.{answered_both, begun_then, follows_none, follows_then, missed_then}
 use Rattle.cluster_core.specs.Clusters.{Acted, ActedOnce, IsBegun, Progress, Ran, RanToEnd, RanToFault, RunsUntil, ComesTo, IsByChain, IsRightAfter, answer_in, finished_in}
 use Rattle.cluster_core.specs.declared.cluster.Turned.{Turned as CodeTurned}
@@ -47,7 +50,7 @@ use Rattle.cluster_core.proofs.Rounds.{TurnedTo, turned_to_is}
 pub time_in : (seen : Seen) → IsRunning seen.setup seen.plain → EndsInTime seen.setup seen.plain (decision_in seen)
 time_in seen running = in_time seen.setup seen.plain seen.kept.values running.orderly.0.reached.time.in_time
 
-module _ (old new : Seen) (before after : Option DiskTold) (running : IsRunning old.setup old.plain) (once : ActedOnce old before new after) where
+module _ (m : Meaning) (old new : Seen) (before after : Option DiskTold) (running : IsRunning old.setup old.plain) (once : ActedOnce m old before new after) where
   pub once_running : IsRunning new.setup new.plain
   once_running = subst (λ (s : Setup). IsRunning s new.plain) (sym once.same) (runs_on old.setup (decision_in old) old.plain running (time_in old running) (acted new.plain) before after once.follows)
 
@@ -64,11 +67,11 @@ pub record Kept (old new : Seen) : Type 0 where
   pub same : new.setup ≡ old.setup
   pub running : IsRunning new.setup new.plain
 
-pub many_kept : (n : ℕ) (old new : Seen) (before after : Option DiskTold) → IsRunning old.setup old.plain → Acted n old before new after → Kept old new
-many_kept zero old new before after running a = subst (Kept old) (sym a.0) (record { same = refl; running = running })
-many_kept (suc n) old new before after running a =
-    let k = many_kept n old a.0 before a.1 running a.2 in
-    record { same = a.3.same ∙ k.same; running = once_running a.0 new a.1 after k.running a.3 }
+pub many_kept : (m : Meaning) (n : ℕ) (old new : Seen) (before after : Option DiskTold) → IsRunning old.setup old.plain → Acted m n old before new after → Kept old new
+many_kept m zero old new before after running a = subst (Kept old) (sym a.0) (record { same = refl; running = running })
+many_kept m (suc n) old new before after running a =
+    let k = many_kept m n old a.0 before a.1 running a.2 in
+    record { same = a.3.same ∙ k.same; running = once_running m a.0 new a.1 after k.running a.3 }
 
 -- ---- as turns of the machine
 
@@ -130,20 +133,21 @@ no_later seen new decisions goes came i l = goes i (before seen.plain.round new.
     before k m (inl e) l = omega (arith, e, l)
     before k m (inr e) l = omega (arith, e, l)
 
-pub many_follow : (n : ℕ) (old new : Seen) (before after : Option DiskTold) → IsRunning old.setup old.plain → Acted n old before new after → (decisions : ℕ → Option EndWord) → GoesOnUntil new.plain.round decisions → Follows (turns n old.setup decisions old.plain) before after (gives (acted new.plain))
-many_follow zero old new before after running a decisions goes =
+pub many_follow : (m : Meaning) (n : ℕ) (old new : Seen) (before after : Option DiskTold) → IsRunning old.setup old.plain → Acted m n old before new after → (decisions : ℕ → Option EndWord) → GoesOnUntil new.plain.round decisions → Follows (turns n old.setup decisions old.plain) before after (gives (acted new.plain))
+many_follow m zero old new before after running a decisions goes =
     subst (λ (s : Seen). Follows (turns 0 old.setup decisions old.plain) before after (gives (acted s.plain))) (sym a.0)
     (subst (λ told. Follows (turns 0 old.setup decisions old.plain) before told (gives (acted old.plain))) (sym a.1) (follows_none (turns 0 old.setup decisions old.plain) before))
-many_follow (suc n) old new before after running a decisions goes =
-    let k = many_kept n old a.0 before a.1 running a.2 in
+many_follow m (suc n) old new before after running a decisions goes =
+    let k = many_kept m n old a.0 before a.1 running a.2 in
     let came = turned_in a.0 (acted new.plain) a.1 after k.running a.3.follows in
-    let first = many_follow n old a.0 before a.1 running a.2 decisions (no_later a.0 new.plain decisions goes came) in
+    let first = many_follow m n old a.0 before a.1 running a.2 decisions (no_later a.0 new.plain decisions goes came) in
     follows_on n old.setup decisions old.plain a.0.plain before a.1 after first (gives (acted new.plain))
     (subst (λ plan. Follows plan a.1 after (gives (acted new.plain))) (same_turn a.0 new.plain old.setup decisions k.same goes came) a.3.follows)
 
 -- ---- until the last turn
 
-module _ (old last new : Seen) (before between after : Option DiskTold) (running : IsRunning old.setup old.plain) (ran : Ran old before last between) where
+module _ (m : Meaning) (old last new : Seen) (before between after : Option DiskTold) (running : IsRunning old.setup old.plain) (ran : Ran m old before last between)
+    (made : MadeOfReads m last.setup.shape new.kept.round last.kept.values new.kept.values between after) where
   -- the last turn is one under decisions that decide it so
   last_turn : (decisions : ℕ → Option EndWord) → (is_decided last.setup last.plain ≡ true → decisions last.plain.round ≡ decision_in last) → turn last.setup (decision_in last) last.plain ≡ turn old.setup (decisions last.plain.round) last.plain
   last_turn decisions agree =
@@ -154,20 +158,22 @@ module _ (old last new : Seen) (before between after : Option DiskTold) (running
       ∙ ap (λ (s : Setup). turn s (decisions last.plain.round) last.plain) ran.same
 
   all_before : (decisions : ℕ → Option EndWord) → GoesOnUntil last.plain.round decisions → Follows (turns ran.count old.setup decisions old.plain) before between (gives (acted last.plain))
-  all_before decisions goes = many_follow ran.count old last before between running ran.acts decisions goes
+  all_before decisions goes = many_follow m ran.count old last before between running ran.acts decisions goes
 
-  pub ran_to_end : (it : Finished) → Follows (turn last.setup (decision_in last) last.plain) between after (gives (ends new.plain it.end)) → it.rounds ≡ new.plain.round → RanToEnd old before new after it
-  ran_to_end it f rounds =
-      let k = many_kept ran.count old last before between running ran.acts in
+  pub ran_to_end : (it : Finished) → Follows (turn last.setup (decision_in last) last.plain) between after (gives (ends new.plain it.end)) → it.rounds ≡ new.plain.round → AreAnswers last.setup.shape it.parts between after → RanToEnd m old before new after it
+  ran_to_end it f rounds parts =
+      let k = many_kept m ran.count old last before between running ran.acts in
       let came = turned_in last (ends new.plain it.end) between after k.running f in
       record {
         last = last;
         between = between;
         ran = ran;
+        made = made;
         ended = f;
         decided = came.0;
         same_round = came.1;
         rounds = rounds;
+        parts = parts;
         as_turns = λ decisions so. follows_on ran.count old.setup decisions old.plain last.plain before between after (all_before decisions (subst (λ round. GoesOnUntil round decisions) came.1 so.0)) (gives (ends new.plain it.end))
             (subst (λ plan. Follows plan between after (gives (ends new.plain it.end))) (last_turn decisions (λ e. ap decisions (sym came.1) ∙ so.1 ∙ sym came.0)) f);
       }
@@ -176,23 +182,24 @@ module _ (old last new : Seen) (before between after : Option DiskTold) (running
   fault_as_turns : (fault : CoreFault) → RefusedIn (turn last.setup (decision_in last) last.plain) between after new.plain fault → (decisions : ℕ → Option EndWord) → DecidesAt last decisions → RefusedIn (turns (suc ran.count) old.setup decisions old.plain) before after new.plain fault
   fault_as_turns fault r decisions so = refused_on ran.count old.setup decisions old.plain last.plain before between after (all_before decisions so.0) new.plain fault (subst (λ plan. RefusedIn plan between after new.plain fault) (last_turn decisions so.1) r)
 
-  pub ran_to_fault : (fault : CoreFault) → RefusedIn (turn last.setup (decision_in last) last.plain) between after new.plain fault → RanToFault old before new after fault
+  pub ran_to_fault : (fault : CoreFault) → RefusedIn (turn last.setup (decision_in last) last.plain) between after new.plain fault → RanToFault m old before new after fault
   ran_to_fault fault r = record {
     last = last;
     between = between;
     ran = ran;
+    made = made;
     refused = r;
     as_turns = fault_as_turns fault r;
   }
 
   -- the same, under the decisions of the chain
-  pub fault_by_chain : (m : Meaning) (shows : Type 0) (fault : CoreFault) → RefusedIn (turn last.setup (decision_in last) last.plain) between after new.plain fault → IsRightAfter m old shows before between last.kept None → IsOfChain last → IsByChain m old shows before after new.plain (Err fault)
-  fault_by_chain m shows fault r right chain tables fits s t stands =
+  pub fault_by_chain : (shows : Type 0) (fault : CoreFault) → RefusedIn (turn last.setup (decision_in last) last.plain) between after new.plain fault → IsRightAfter m old shows before between last.kept None → IsOfChain last → IsByChain m old shows before after new.plain (Err fault)
+  fault_by_chain shows fault r right chain tables fits s t stands =
       let w = world_of m old.setup tables in
       (ran.count, fault_as_turns fault r (chain_decision w) (chain w between (ap (λ (x : Setup). x.shape) (sym ran.same)) fits (right tables fits s t stands)))
 
 -- a run to its end, under the decisions of the chain
-pub end_by_chain : (m : Meaning) (old new : Seen) (shows : Type 0) (before after : Option DiskTold) (it : Finished) → RanToEnd old before new after it → IsRightAfter m old shows before after new.kept (Some it) → IsByChain m old shows before after new.plain (Ok it)
+pub end_by_chain : (m : Meaning) (old new : Seen) (shows : Type 0) (before after : Option DiskTold) (it : Finished) → RanToEnd m old before new after it → IsRightAfter m old shows before after new.kept (Some it) → IsByChain m old shows before after new.plain (Ok it)
 end_by_chain m old new shows before after it ran right tables fits s t stands =
     let w = world_of m old.setup tables in
     (ran.ran.count, ran.as_turns (chain_decision w) (subst (λ i. DecidesSo i (Some it.end) (chain_decision w)) ran.rounds (chain_ends w it.rounds it.end (right tables fits s t stands).1)))
@@ -211,13 +218,13 @@ module _ (setup : Setup) (old : Progress) (new : Seen) (before between after : O
   loaded_refused core.Memory more r = begun_then (load setup) (loaded setup) more before between after load_is r
 
   -- load, and then a run of the cluster, is a run of the machine
-  pub loaded_to_end : (it : Finished) (ran : RanToEnd old.state between new after it) (decisions : ℕ → Option EndWord) → DecidesSo new.plain.round (Some it.end) decisions → Follows (run (suc ran.ran.count) setup decisions) before after (gives (ends new.plain it.end))
-  loaded_to_end it ran decisions so =
+  pub loaded_to_end : (m : Meaning) (it : Finished) (ran : RanToEnd m old.state between new after it) (decisions : ℕ → Option EndWord) → DecidesSo new.plain.round (Some it.end) decisions → Follows (run (suc ran.ran.count) setup decisions) before after (gives (ends new.plain it.end))
+  loaded_to_end m it ran decisions so =
       let rest = begun_so (λ x c. Follows (turns (suc ran.ran.count) x decisions c) between after (gives (ends new.plain it.end))) (ran.as_turns decisions so) in
       follows_then (load setup) (loaded setup) (turns (suc ran.ran.count) setup decisions) (gives (ends new.plain it.end)) before between after load_is rest
 
-  pub loaded_to_fault : (fault : CoreFault) (ran : RanToFault old.state between new after fault) (decisions : ℕ → Option EndWord) → DecidesAt ran.last decisions → RefusedIn (run (suc ran.ran.count) setup decisions) before after new.plain fault
-  loaded_to_fault fault ran decisions so =
+  pub loaded_to_fault : (m : Meaning) (fault : CoreFault) (ran : RanToFault m old.state between new after fault) (decisions : ℕ → Option EndWord) → DecidesAt ran.last decisions → RefusedIn (run (suc ran.ran.count) setup decisions) before after new.plain fault
+  loaded_to_fault m fault ran decisions so =
       let rest = begun_so (λ x c. RefusedIn (turns (suc ran.ran.count) x decisions c) between after new.plain fault) (ran.as_turns decisions so) in
       loaded_refused fault (turns (suc ran.ran.count) setup decisions) rest
 
@@ -239,10 +246,12 @@ module _ (setup : Setup) (old : Progress) (new : Seen) (before between after : O
 pub record SoFar {D : Type 0} (g : Disks D) (m : Meaning) (first now : Progress) (old new : D) : Type 0 where
   pub unanswered : now.answered ≡ None
   pub running : IsRunning now.state.setup now.state.plain
-  pub ran : Ran first.state (g.told old) now.state (g.told new)
+  pub ran : Ran m first.state (g.told old) now.state (g.told new)
   pub left : LeavesDisks g first.state.setup.schedule.nodes old new
   pub right : IsRightAfter m first.state (g.shows_damage old) (g.told old) (g.told new) now.state.kept None
   pub calls : CallsRight g m first.state.setup first.state.kept old new (Unit {0})
+  pub agree : KeepsDigests first.state.kept.table.copies now.state.kept.table.copies (g.told old) (g.told new)
+  pub asks : AsksByDigests first.state.kept.table.copies (g.told old) (g.told new)
 
 pub left_on : {D : Type 0} (g : Disks D) (m : Meaning) (first now : Progress) (old between after : D) → SoFar g m first now old between → LeavesDisks g now.state.setup.schedule.nodes between after → LeavesDisks g first.state.setup.schedule.nodes old after
 left_on g m first now old between after s left = leaves_more g first.state.setup.schedule.nodes old between after s.left (subst (λ (x : Setup). LeavesDisks g x.schedule.nodes between after) s.ran.same left)
@@ -268,24 +277,28 @@ calls_on g m first now old between after p s calls shows tables fits told stands
     works_more g w old between after (Unit {0}) p (s.calls shows tables fits told stands)
     (subst (λ (x : Setup). CallsRight g m x now.state.kept between after p) s.ran.same calls (s.left.damage_shown shows) tables fits (tells_on first.state.setup.schedule.nodes (g.told old) (g.told between) s.left.others told) (s.right tables fits shows told stands))
 
-module _ {D : Type 0} (g : Disks D) (m : Meaning) (first now new : Progress) (old between after : D) (s : SoFar g m first now old between) (it : CodeTurned) where
-  once_of : it ≡ turned.Acted → Follows (turn now.state.setup (decision_in now.state) now.state.plain) (g.told between) (g.told after) (gives (turned_to (finished_in it) new.state.plain)) → new.state.setup ≡ now.state.setup → ActedOnce now.state (g.told between) new.state (g.told after)
-  once_of is f same = record { follows = subst (λ t. Follows (turn now.state.setup (decision_in now.state) now.state.plain) (g.told between) (g.told after) (gives (turned_to (finished_in t) new.state.plain))) is f; same = same }
+module _ {D : Type 0} (g : Disks D) (m : Meaning) (first now new : Progress) (old between after : D) (s : SoFar g m first now old between) (it : CodeTurned)
+    (made : MadeOfReads m now.state.setup.shape new.state.kept.round now.state.kept.values new.state.kept.values (g.told between) (g.told after)) where
+  once_of : it ≡ turned.Acted → Follows (turn now.state.setup (decision_in now.state) now.state.plain) (g.told between) (g.told after) (gives (turned_to (finished_in it) new.state.plain)) → new.state.setup ≡ now.state.setup → ActedOnce m now.state (g.told between) new.state (g.told after)
+  once_of is f same = record { follows = subst (λ t. Follows (turn now.state.setup (decision_in now.state) now.state.plain) (g.told between) (g.told after) (gives (turned_to (finished_in t) new.state.plain))) is f; same = same; made = made }
 
   pub less_left : it ≡ turned.Acted → Follows (turn now.state.setup (decision_in now.state) now.state.plain) (g.told between) (g.told after) (gives (turned_to (finished_in it) new.state.plain)) → new.state.setup ≡ now.state.setup → measure first.state.setup new.state.plain < measure first.state.setup now.state.plain
-  less_left is f same = subst (λ (x : Setup). measure x new.state.plain < measure x now.state.plain) s.ran.same (once_falls now.state new.state (g.told between) (g.told after) s.running (once_of is f same))
+  less_left is f same = subst (λ (x : Setup). measure x new.state.plain < measure x now.state.plain) s.ran.same (once_falls m now.state new.state (g.told between) (g.told after) s.running (once_of is f same))
 
   pub one_more : it ≡ turned.Acted → Follows (turn now.state.setup (decision_in now.state) now.state.plain) (g.told between) (g.told after) (gives (turned_to (finished_in it) new.state.plain)) → new.state.setup ≡ now.state.setup → new.answered ≡ answer_in (Ok it) → LeavesDisks g now.state.setup.schedule.nodes between after
-      → IsRightAfter m now.state (g.shows_damage between) (g.told between) (g.told after) new.state.kept (finished_in it) → CallsRight g m now.state.setup now.state.kept between after (Unit {0}) → SoFar g m first new old after
-  one_more is f same answered left right calls =
+      → IsRightAfter m now.state (g.shows_damage between) (g.told between) (g.told after) new.state.kept (finished_in it) → CallsRight g m now.state.setup now.state.kept between after (Unit {0})
+      → KeepsDigests now.state.kept.table.copies new.state.kept.table.copies (g.told between) (g.told after) → AsksByDigests now.state.kept.table.copies (g.told between) (g.told after) → SoFar g m first new old after
+  one_more is f same answered left right calls agree asks =
       let once = once_of is f same in
       record {
         unanswered = answered ∙ ap (λ t. answer_in (Ok t)) is;
-        running = once_running now.state new.state (g.told between) (g.told after) s.running once;
+        running = once_running m now.state new.state (g.told between) (g.told after) s.running once;
         ran = record { count = suc s.ran.count; acts = (now.state, g.told between, s.ran.acts, once); same = same ∙ s.ran.same };
         left = left_on g m first now old between after s left;
         right = right_on g m first now old between after new.state.kept None s (subst (λ t. IsRightAfter m now.state (g.shows_damage between) (g.told between) (g.told after) new.state.kept (finished_in t)) is right);
         calls = calls_on g m first now old between after (Unit {0}) s calls;
+        agree = λ all. agree (s.agree all);
+        asks = ask_more first.state.kept.table.copies now.state.kept.table.copies (g.told old) (g.told between) (g.told after) s.asks s.agree asks;
       }
 
 -- the run goes on where nothing is answered

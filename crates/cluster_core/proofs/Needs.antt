@@ -108,6 +108,7 @@ module _ (setup : Setup) (kept : Kept) (caches : HasNoCaches setup.shape) (a : A
     reads = it.reads;
     each = it.each;
     rows = it.rows;
+    added = it.added;
     texts = it.texts;
     follows =
         let end : counted_files a.node (input_reads.files_of it.reads) (nothing_read (plain_of setup.schedule kept)) ≡ read_so_far counts (plain_of setup.schedule kept) = ap (λ fs. counted_files a.node fs (nothing_read (plain_of setup.schedule kept))) (sym it.files) ∙ counted (plain_of setup.schedule kept) in

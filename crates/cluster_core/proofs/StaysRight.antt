@@ -13,7 +13,7 @@ use Rattle.valid_copies.specs.Stands.{Stands}
 use Rattle.cluster_core.specs.States.{Kept}
 use Rattle.cluster_core.specs.Works.{StandsFor, StaysRight}
 
-was_set : (xs : List (Option ℕ)) (p v q value : ℕ) → slice_get (set xs p (Some v)) q ≡ Some (Some value) → ((value ≡ v) × (q ≡ p)) ⊎ (slice_get xs q ≡ Some (Some value))
+pub was_set : (xs : List (Option ℕ)) (p v q value : ℕ) → slice_get (set xs p (Some v)) q ≡ Some (Some value) → ((value ≡ v) × (q ≡ p)) ⊎ (slice_get xs q ≡ Some (Some value))
 was_set [] p v q value e = inr e
 was_set (x ∷ xs) zero v zero value e = inl (same e, refl)
   where

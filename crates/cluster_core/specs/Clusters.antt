@@ -17,6 +17,7 @@ use Rattle.run_model.specs.Turns.{acted, ends, turn}
 use Rattle.valid_copies.specs.Calls.{Follows}
 use Rattle.cluster_core.specs.Deciding.{chain_decision}
 use Rattle.cluster_core.specs.Faults.{RefusedIn}
+use Rattle.cluster_core.specs.Origins.{AreAnswers, MadeOfReads}
 use Rattle.task_values.specs.Worlds.{WorldFits}
 use Rattle.cluster_core.specs.States.{Kept, Seen}
 use Rattle.cluster_core.specs.Turns.{DecidesAt, DecidesSo, IsRight, IsRunning, decision_in}
@@ -87,38 +88,45 @@ pub record IsBegun (setup : Setup) (cluster : Progress) : Type 0 where
 
 -- ---- runs
 
--- a turn that acted, under the decision that the values of the round's tests make
-pub record ActedOnce (old : Seen) (before : Option DiskTold) (new : Seen) (after : Option DiskTold) : Type 0 where
+-- a turn that acted, under the decision that the values of the round's tests make; what it wrote, and its new values, are made
+-- of what its reads answered
+pub record ActedOnce (m : Meaning) (old : Seen) (before : Option DiskTold) (new : Seen) (after : Option DiskTold) : Type 0 where
   pub follows : Follows (turn old.setup (decision_in old) old.plain) before after (gives (acted new.plain))
   pub same : new.setup ≡ old.setup
+  pub made : MadeOfReads m old.setup.shape new.kept.round old.kept.values new.kept.values before after
 
 -- so many such turns, one after another
-abbrev pub Acted : ℕ → Seen → Option DiskTold → Seen → Option DiskTold → Type 0
-Acted zero old before new after = (new ≡ old) × (after ≡ before)
-Acted (suc n) old before new after = (middle : Seen) × (between : Option DiskTold) × Acted n old before middle between × ActedOnce middle between new after
+abbrev pub Acted : Meaning → ℕ → Seen → Option DiskTold → Seen → Option DiskTold → Type 0
+Acted m zero old before new after = (new ≡ old) × (after ≡ before)
+Acted m (suc n) old before new after = (middle : Seen) × (between : Option DiskTold) × Acted m n old before middle between × ActedOnce m middle between new after
 
 -- some turns that acted, one after another
-pub record Ran (old : Seen) (before : Option DiskTold) (last : Seen) (between : Option DiskTold) : Type 0 where
+pub record Ran (m : Meaning) (old : Seen) (before : Option DiskTold) (last : Seen) (between : Option DiskTold) : Type 0 where
   pub count : ℕ
-  pub acts : Acted count old before last between
+  pub acts : Acted m count old before last between
   pub same : last.setup ≡ old.setup
 
--- turns acted, and one more finished the run; all of them are turns of the machine, under any decisions that go on until the end and end so
-pub record RanToEnd (old : Seen) (before : Option DiskTold) (new : Seen) (after : Option DiskTold) (it : Finished) : Type 0 where
+-- turns acted, and one more finished the run, with the lists for which the answers to its reads stand; all of them are turns of
+-- the machine, under any decisions that go on until the end and end so
+pub record RanToEnd (m : Meaning) (old : Seen) (before : Option DiskTold) (new : Seen) (after : Option DiskTold) (it : Finished) : Type 0 where
   pub last : Seen
   pub between : Option DiskTold
-  pub ran : Ran old before last between
+  pub ran : Ran m old before last between
+  pub made : MadeOfReads m last.setup.shape new.kept.round last.kept.values new.kept.values between after
   pub ended : Follows (turn last.setup (decision_in last) last.plain) between after (gives (ends new.plain it.end))
   pub decided : decision_in last ≡ Some it.end
   pub same_round : new.plain.round ≡ last.plain.round
   pub rounds : it.rounds ≡ new.plain.round
+  pub parts : AreAnswers last.setup.shape it.parts between after
   pub as_turns : (decisions : ℕ → Option EndWord) → DecidesSo new.plain.round (Some it.end) decisions → Follows (turns (suc ran.count) old.setup decisions old.plain) before after (gives (ends new.plain it.end))
 
--- turns acted, and one more was not brought to its end; all of them are turns of the machine, under any decisions that go on until that turn and decide it so
-pub record RanToFault (old : Seen) (before : Option DiskTold) (new : Seen) (after : Option DiskTold) (fault : CoreFault) : Type 0 where
+-- turns acted, and one more was not brought to its end; all of them are turns of the machine, under any decisions that go on
+-- until that turn and decide it so
+pub record RanToFault (m : Meaning) (old : Seen) (before : Option DiskTold) (new : Seen) (after : Option DiskTold) (fault : CoreFault) : Type 0 where
   pub last : Seen
   pub between : Option DiskTold
-  pub ran : Ran old before last between
+  pub ran : Ran m old before last between
+  pub made : MadeOfReads m last.setup.shape new.kept.round last.kept.values new.kept.values between after
   pub refused : RefusedIn (turn last.setup (decision_in last) last.plain) between after new.plain fault
   pub as_turns : (decisions : ℕ → Option EndWord) → DecidesAt last decisions → RefusedIn (turns (suc ran.count) old.setup decisions old.plain) before after new.plain fault
 

@@ -6,7 +6,7 @@ use Rattle.loop_scheduler.specs.Reads.{files_of}
 use Rattle.name_values.specs.Values.{World}
 use Rattle.task_values.specs.Reads.{part_in}
 use Rattle.valid_copies.specs.Files.{Desk, FileRead, ReadsText}
-use Rattle.valid_copies.specs.Inputs.{EachRead, rows_in}
+use Rattle.valid_copies.specs.Inputs.{EachRead, calls_of, rows_in}
 use Rattle.valid_copies.specs.Stands.{Stands}
 use Rattle.cluster_core.specs.States.{Seen}
 use Rattle.cluster_core.specs.declared.attempt.Read.{Read}
@@ -22,7 +22,7 @@ use Rattle.run_model.specs.Reading.{ReadSoFar, nothing_read, read_inputs, readin
 use Rattle.run_model.specs.State.{PlainCluster, Setup, with_copies}
 use Rattle.run_model.specs.Tasks.{IsTask, last}
 use Rattle.run_model.specs.declared.attempt.Attempt.{Attempt}
-use Rattle.valid_copies.specs.Calls.{Begun, Follows}
+use Rattle.valid_copies.specs.Calls.{Added, Begun, Follows}
 use Rattle.valid_copies.specs.ReadCounts.{read_so_far}
 use Rattle.valid_copies.specs.declared.inputs.ReadCounts.{ReadCounts}
 
@@ -62,12 +62,13 @@ desk_of seen a = record { shape = seen.setup.shape; table = seen.kept.table; own
 abbrev pub read_plan : Seen → Attempt → Plan ReadSoFar
 read_plan seen a = read_inputs a.node (inputs seen.setup.shape a.task) (reading (nothing_read seen.plain))
 
--- all that the attempt needs was read: for each input the records of its files, and so many files in all; where the disks
--- show their damage and the copies are valid, texts were read
+-- all that the attempt needs was read: for each input the records of its files, and so many files in all, by one call for
+-- each file; where the disks show their damage and the copies are valid, texts were read
 pub record HasRead (seen : Seen) (a : Attempt) (shows : Type 0) (before after : Option DiskTold) (counts : ReadCounts) (lists : List (List (List Record))) : Type 0 where
   pub reads : List (List FileRead)
   pub each : EachRead (desk_of seen a) (files_of seen.setup.shape a.task) reads
   pub rows : lists ≡ rows_in reads
+  pub added : Added before (calls_of reads) after
   pub texts : shows → IsSome before → (w : World) → Stands w seen.kept.table.copies before → AllByRecursion (AllByRecursion (ReadsText w)) reads
   pub follows : Follows (read_plan seen a) before after (gives (reading (read_so_far counts seen.plain)))
 

@@ -5,6 +5,7 @@ pub mod Faults
 pub mod Filling
 pub mod Finishing
 pub mod Loading
+pub mod Origins
 pub mod Outputs
 pub mod Parts
 pub mod RoundChange

@@ -13,6 +13,8 @@ ghost use Rattle.valid_copies.specs.Faults as work;
 ghost use Rattle.cluster_core.specs.Disks.{Leaves};
 ghost use Rattle.cluster_core.specs.Faults.{AtDevice, AtMissed, AtRefusal, IsRefused, RefusedIn, StoppedIn};
 ghost use Rattle.cluster_core.specs.Works.{CallsRight, CanWork, KeepsRight, StaysRight};
+ghost use Rattle.valid_copies.specs.LastWrites.{AsksByDigests, KeepsDigests};
+ghost use Rattle.cluster_core.specs.Origins.{MadeOfReads};
 
 use crate::fault::CoreFault;
 use crate::running::{count_failure, oldest, oldest_on, take_out};
@@ -42,6 +44,10 @@ impl State {
         ensures right { OnOk result (StaysRight (F.meaning functions.now) self.old.setup (D.shows_damage disks.old) (D.told disks.old) (D.told disks.new) self.old.kept self.new.kept) }
         ensures still { IfErr result (λ fault. AtRefusal fault (StaysRight (F.meaning functions.now) self.old.setup (D.shows_damage disks.old) (D.told disks.old) (D.told disks.new) self.old.kept self.new.kept)) }
         ensures keeps { OnErr result (KeepsRight (F.meaning functions.now) self.old.setup (D.shows_damage disks.old) (D.told disks.old) self.old.kept self.new.kept) }
+        ensures agree { OnOk result (KeepsDigests self.old.kept.table.copies self.new.kept.table.copies (D.told disks.old) (D.told disks.new)) }
+        ensures agree_still { IfErr result (λ fault. AtRefusal fault (KeepsDigests self.old.kept.table.copies self.new.kept.table.copies (D.told disks.old) (D.told disks.new))) }
+        ensures asks { AsksByDigests self.old.kept.table.copies (D.told disks.old) (D.told disks.new) }
+        ensures made { MadeOfReads (F.meaning functions.now) self.old.setup.shape self.new.kept.round self.old.kept.values self.new.kept.values (D.told disks.old) (D.told disks.new) }
         ensures same { self.new.setup ≡ self.old.setup }
         ensures calls { CallsRight D.Disks (F.meaning functions.now) self.old.setup self.old.kept disks.old disks.new (IfErr result (λ fault. AtMissed fault ⊥)) }
         ensures disks { Leaves D.Disks self.old.setup.schedule.nodes disks.old disks.new }
@@ -80,6 +86,10 @@ impl State {
         ensures right { OnOk result (StaysRight (F.meaning functions.now) self.old.setup (D.shows_damage disks.old) (D.told disks.old) (D.told disks.new) self.old.kept self.new.kept) }
         ensures still { IfErr result (λ fault. work.AtMissed fault (StaysRight (F.meaning functions.now) self.old.setup (D.shows_damage disks.old) (D.told disks.old) (D.told disks.new) self.old.kept self.new.kept)) }
         ensures keeps { OnErr result (KeepsRight (F.meaning functions.now) self.old.setup (D.shows_damage disks.old) (D.told disks.old) self.old.kept self.new.kept) }
+        ensures agree { OnOk result (KeepsDigests self.old.kept.table.copies self.new.kept.table.copies (D.told disks.old) (D.told disks.new)) }
+        ensures agree_still { IfErr result (λ fault. work.AtMissed fault (KeepsDigests self.old.kept.table.copies self.new.kept.table.copies (D.told disks.old) (D.told disks.new))) }
+        ensures asks { AsksByDigests self.old.kept.table.copies (D.told disks.old) (D.told disks.new) }
+        ensures made { MadeOfReads (F.meaning functions.now) self.old.setup.shape self.new.kept.round self.old.kept.values self.new.kept.values (D.told disks.old) (D.told disks.new) }
         ensures same { self.new.setup ≡ self.old.setup }
         ensures calls { CallsRight D.Disks (F.meaning functions.now) self.old.setup self.old.kept disks.old disks.new (IfErr result (λ fault. work.AtMissed fault ⊥)) }
         ensures disks { Leaves D.Disks self.old.setup.schedule.nodes disks.old disks.new }
@@ -108,6 +118,10 @@ impl State {
         ensures right { OnOk result (StaysRight (F.meaning functions.now) self.old.setup (D.shows_damage disks.old) (D.told disks.old) (D.told disks.new) self.old.kept self.new.kept) }
         ensures still { IfErr result (λ fault. work.AtMissed fault (StaysRight (F.meaning functions.now) self.old.setup (D.shows_damage disks.old) (D.told disks.old) (D.told disks.new) self.old.kept self.new.kept)) }
         ensures keeps { OnErr result (KeepsRight (F.meaning functions.now) self.old.setup (D.shows_damage disks.old) (D.told disks.old) self.old.kept self.new.kept) }
+        ensures agree { OnOk result (KeepsDigests self.old.kept.table.copies self.new.kept.table.copies (D.told disks.old) (D.told disks.new)) }
+        ensures agree_still { IfErr result (λ fault. work.AtMissed fault (KeepsDigests self.old.kept.table.copies self.new.kept.table.copies (D.told disks.old) (D.told disks.new))) }
+        ensures asks { AsksByDigests self.old.kept.table.copies (D.told disks.old) (D.told disks.new) }
+        ensures made { MadeOfReads (F.meaning functions.now) self.old.setup.shape self.new.kept.round self.old.kept.values self.new.kept.values (D.told disks.old) (D.told disks.new) }
         ensures same { self.new.setup ≡ self.old.setup }
         ensures calls { CallsRight D.Disks (F.meaning functions.now) self.old.setup self.old.kept disks.old disks.new (IfErr result (λ fault. work.AtMissed fault ⊥)) }
         ensures disks { Leaves D.Disks self.old.setup.schedule.nodes disks.old disks.new }
@@ -137,6 +151,10 @@ impl State {
         ensures right { OnOk result (StaysRight (F.meaning functions.now) self.old.setup (D.shows_damage disks.old) (D.told disks.old) (D.told disks.new) self.old.kept self.new.kept) }
         ensures still { IfErr result (λ fault. work.AtMissed fault (StaysRight (F.meaning functions.now) self.old.setup (D.shows_damage disks.old) (D.told disks.old) (D.told disks.new) self.old.kept self.new.kept)) }
         ensures keeps { OnErr result (KeepsRight (F.meaning functions.now) self.old.setup (D.shows_damage disks.old) (D.told disks.old) self.old.kept self.new.kept) }
+        ensures agree { OnOk result (KeepsDigests self.old.kept.table.copies self.new.kept.table.copies (D.told disks.old) (D.told disks.new)) }
+        ensures agree_still { IfErr result (λ fault. work.AtMissed fault (KeepsDigests self.old.kept.table.copies self.new.kept.table.copies (D.told disks.old) (D.told disks.new))) }
+        ensures asks { AsksByDigests self.old.kept.table.copies (D.told disks.old) (D.told disks.new) }
+        ensures made { MadeOfReads (F.meaning functions.now) self.old.setup.shape self.new.kept.round self.old.kept.values self.new.kept.values (D.told disks.old) (D.told disks.new) }
         ensures same { self.new.setup ≡ self.old.setup }
         ensures calls { CallsRight D.Disks (F.meaning functions.now) self.old.setup self.old.kept disks.old disks.new (IfErr result (λ fault. work.AtMissed fault ⊥)) }
         ensures disks { Leaves D.Disks self.old.setup.schedule.nodes disks.old disks.new }

@@ -6,7 +6,7 @@ ghost use Rattle.run_laws.specs.WithoutLoss.{Orderly};
 ghost use Rattle.run_model.specs.Advance.{advance, is_decided, next_round, passed};
 ghost use Rattle.run_model.specs.Plans.{gives};
 ghost use Rattle.run_model.specs.State.{noted};
-ghost use Rattle.valid_copies.specs.Calls.{Follows};
+ghost use Rattle.valid_copies.specs.Calls.{CallsHave, Follows};
 ghost use Rattle.valid_copies.specs.Faults as work;
 ghost use Rattle.valid_copies.specs.RightCalls.{RightWork};
 ghost use Rattle.valid_copies.specs.Stands.{Stands};
@@ -14,6 +14,8 @@ ghost use Rattle.cluster_core.specs.Disks.{Leaves};
 ghost use Rattle.cluster_core.specs.Faults.{StoppedIn};
 ghost use Rattle.cluster_core.specs.Works.{StandsFor};
 ghost use Rattle.cluster_core.specs.Turns.{IsOfChain, IsRight, Rightly, advance_by, advanced_to, decision_in};
+ghost use Rattle.valid_copies.specs.LastWrites.{AsksByDigests, KeepsDigests, WritesNothing};
+ghost use Rattle.cluster_core.specs.Origins.{AreAnswers, NoneNew};
 
 use crate::deciding::decision;
 use crate::finished::Finished;
@@ -43,6 +45,12 @@ impl State {
         ensures chain { IsOfChain self.old }
         ensures still { IfErr result (λ fault. work.AtMissed fault ((w : World) → StandsFor w self.old.kept (D.told disks.old) → StandsFor w self.new.kept (D.told disks.new))) }
         ensures keeps { OnErr result ((w : World) → StandsFor w self.old.kept (D.told disks.old) → StandsFor w self.new.kept None) }
+        ensures agree { OnOk result (KeepsDigests self.old.kept.table.copies self.new.kept.table.copies (D.told disks.old) (D.told disks.new)) }
+        ensures agree_still { IfErr result (λ fault. work.AtMissed fault (KeepsDigests self.old.kept.table.copies self.new.kept.table.copies (D.told disks.old) (D.told disks.new))) }
+        ensures asks { AsksByDigests self.old.kept.table.copies (D.told disks.old) (D.told disks.new) }
+        ensures wrote_nothing { CallsHave WritesNothing (D.told disks.old) (D.told disks.new) }
+        ensures old_values { NoneNew self.old.kept.values self.new.kept.values }
+        ensures parts { IfOk result (λ finished. IfSome finished (λ it. AreAnswers self.old.setup.shape it.parts (D.told disks.old) (D.told disks.new))) }
         ensures same { self.new.setup ≡ self.old.setup }
         ensures failures { self.new.plain.failures ≡ self.old.plain.failures }
         ensures calls { (w : World) → Stands w self.old.kept.table.copies (D.told disks.old) → RightWork D.Disks w disks.old disks.new (IfErr result (λ fault. work.AtMissed fault ⊥)) }
@@ -83,6 +91,12 @@ impl State {
         ensures right { IfOk result (λ finished. (w : World) → Rightly w self.old.setup.shape (D.shows_damage disks.old) (D.told disks.old) self.old.kept → IsRight w (D.told disks.new) self.new.kept finished) }
         ensures still { IfErr result (λ fault. work.AtMissed fault ((w : World) → StandsFor w self.old.kept (D.told disks.old) → StandsFor w self.new.kept (D.told disks.new))) }
         ensures keeps { OnErr result ((w : World) → StandsFor w self.old.kept (D.told disks.old) → StandsFor w self.new.kept None) }
+        ensures agree { OnOk result (KeepsDigests self.old.kept.table.copies self.new.kept.table.copies (D.told disks.old) (D.told disks.new)) }
+        ensures agree_still { IfErr result (λ fault. work.AtMissed fault (KeepsDigests self.old.kept.table.copies self.new.kept.table.copies (D.told disks.old) (D.told disks.new))) }
+        ensures asks { AsksByDigests self.old.kept.table.copies (D.told disks.old) (D.told disks.new) }
+        ensures wrote_nothing { CallsHave WritesNothing (D.told disks.old) (D.told disks.new) }
+        ensures old_values { NoneNew self.old.kept.values self.new.kept.values }
+        ensures parts { IfOk result (λ finished. IfSome finished (λ it. AreAnswers self.old.setup.shape it.parts (D.told disks.old) (D.told disks.new))) }
         ensures same { self.new.setup ≡ self.old.setup }
         ensures failures { self.new.plain.failures ≡ self.old.plain.failures }
         ensures calls { (w : World) → Stands w self.old.kept.table.copies (D.told disks.old) → RightWork D.Disks w disks.old disks.new (IfErr result (λ fault. work.AtMissed fault ⊥)) }
@@ -141,6 +155,10 @@ impl State {
         ensures next { OnOk result (self.new.kept.round ≡ self.old.kept.round + 1) }
         ensures stopped { IfErr result (StoppedIn (next_round self.old.setup self.old.plain) (D.told disks.old) (D.told disks.new)) }
         ensures keeps { OnErr result ((w : World) → StandsFor w self.old.kept (D.told disks.old) → StandsFor w self.new.kept None) }
+        ensures agree { OnOk result (KeepsDigests self.old.kept.table.copies self.new.kept.table.copies (D.told disks.old) (D.told disks.new)) }
+        ensures asks { AsksByDigests self.old.kept.table.copies (D.told disks.old) (D.told disks.new) }
+        ensures wrote_nothing { CallsHave WritesNothing (D.told disks.old) (D.told disks.new) }
+        ensures old_values { NoneNew self.old.kept.values self.new.kept.values }
         ensures same { self.new.setup ≡ self.old.setup }
         ensures failures { self.new.plain.failures ≡ self.old.plain.failures }
         ensures calls { (w : World) → RightWork D.Disks w disks.old disks.new (IfErr result (λ fault. work.AtMissed fault ⊥)) }

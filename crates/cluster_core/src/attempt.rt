@@ -20,12 +20,14 @@ ghost use Rattle.run_model.specs.Plans.{gives};
 ghost use Rattle.run_model.specs.State.{noted};
 ghost use Rattle.run_model.specs.declared.attempt.Attempt.{Attempt as Tried};
 ghost use Rattle.task_values.specs.Reads.{part_in};
-ghost use Rattle.valid_copies.specs.Calls.{Begun, Follows};
+ghost use Rattle.valid_copies.specs.Calls.{Begun, CallsHave, Follows};
 ghost use Rattle.valid_copies.specs.Faults as work;
 ghost use Rattle.valid_copies.specs.Inputs.{names_in};
 ghost use Rattle.valid_copies.specs.Readings.{IsTextOf};
 ghost use Rattle.valid_copies.specs.RightCalls.{RightWork};
 ghost use Rattle.valid_copies.specs.Stands.{Stands};
+ghost use Rattle.valid_copies.specs.LastWrites.{AsksByDigests, IsWriteOf, KeepsDigests, ReadsCopies};
+ghost use Rattle.cluster_core.specs.Origins.{CompletedOrNot, MadeOfReads};
 
 use crate::output::{Output, output_of};
 use crate::running::take_out;
@@ -64,6 +66,10 @@ impl State {
         ensures right { OnOk result (StaysRight (F.meaning functions.now) self.old.setup (D.shows_damage disks.old) (D.told disks.old) (D.told disks.new) self.old.kept self.new.kept) }
         ensures still { IfErr result (λ fault. work.AtMissed fault (StaysRight (F.meaning functions.now) self.old.setup (D.shows_damage disks.old) (D.told disks.old) (D.told disks.new) self.old.kept self.new.kept)) }
         ensures keeps { OnErr result (KeepsRight (F.meaning functions.now) self.old.setup (D.shows_damage disks.old) (D.told disks.old) self.old.kept self.new.kept) }
+        ensures agree { OnOk result (KeepsDigests self.old.kept.table.copies self.new.kept.table.copies (D.told disks.old) (D.told disks.new)) }
+        ensures agree_still { IfErr result (λ fault. work.AtMissed fault (KeepsDigests self.old.kept.table.copies self.new.kept.table.copies (D.told disks.old) (D.told disks.new))) }
+        ensures asks { AsksByDigests self.old.kept.table.copies (D.told disks.old) (D.told disks.new) }
+        ensures made { MadeOfReads (F.meaning functions.now) self.old.setup.shape self.new.kept.round self.old.kept.values self.new.kept.values (D.told disks.old) (D.told disks.new) }
         ensures same { self.new.setup ≡ self.old.setup }
         ensures calls { CallsRight D.Disks (F.meaning functions.now) self.old.setup self.old.kept disks.old disks.new (IfErr result (λ fault. work.AtMissed fault ⊥)) }
         ensures disks { Leaves D.Disks self.old.setup.schedule.nodes disks.old disks.new }
@@ -90,6 +96,10 @@ impl State {
         ensures right { OnOk result (StaysRight (F.meaning functions.now) self.old.setup (D.shows_damage disks.old) (D.told disks.old) (D.told disks.new) self.old.kept self.new.kept) }
         ensures still { IfErr result (λ fault. work.AtMissed fault (StaysRight (F.meaning functions.now) self.old.setup (D.shows_damage disks.old) (D.told disks.old) (D.told disks.new) self.old.kept self.new.kept)) }
         ensures keeps { OnErr result (KeepsRight (F.meaning functions.now) self.old.setup (D.shows_damage disks.old) (D.told disks.old) self.old.kept self.new.kept) }
+        ensures agree { OnOk result (KeepsDigests self.old.kept.table.copies self.new.kept.table.copies (D.told disks.old) (D.told disks.new)) }
+        ensures agree_still { IfErr result (λ fault. work.AtMissed fault (KeepsDigests self.old.kept.table.copies self.new.kept.table.copies (D.told disks.old) (D.told disks.new))) }
+        ensures asks { AsksByDigests self.old.kept.table.copies (D.told disks.old) (D.told disks.new) }
+        ensures made { MadeOfReads (F.meaning functions.now) self.old.setup.shape self.new.kept.round self.old.kept.values self.new.kept.values (D.told disks.old) (D.told disks.new) }
         ensures same { self.new.setup ≡ self.old.setup }
         ensures calls { CallsRight D.Disks (F.meaning functions.now) self.old.setup self.old.kept disks.old disks.new (IfErr result (λ fault. work.AtMissed fault ⊥)) }
         ensures disks { Leaves D.Disks self.old.setup.schedule.nodes disks.old disks.new }
@@ -122,6 +132,10 @@ impl State {
         ensures begun { OnErr result (Begun (commit_plan self.old.setup attempt.now read.counts self.old.plain) (D.told disks.old) (D.told disks.new)) }
         ensures right { OnOk result ((w : World) → ((output : Made) → IsMade (F.meaning functions.now) self.old.setup.shape attempt.now.task read.lists.items output → IsRightOutput w self.old.kept.round output) → StandsFor w self.old.kept (D.told disks.old) → StandsFor w self.new.kept (D.told disks.new)) }
         ensures keeps { OnErr result ((w : World) → ((output : Made) → IsMade (F.meaning functions.now) self.old.setup.shape attempt.now.task read.lists.items output → IsRightOutput w self.old.kept.round output) → StandsFor w self.old.kept (D.told disks.old) → StandsFor w self.new.kept None) }
+        ensures agree { OnOk result (KeepsDigests self.old.kept.table.copies self.new.kept.table.copies (D.told disks.old) (D.told disks.new)) }
+        ensures asks { AsksByDigests self.old.kept.table.copies (D.told disks.old) (D.told disks.new) }
+        ensures made { CompletedOrNot (F.meaning functions.now) self.old.setup.shape attempt.now.task read.lists.items self.old.kept.values self.new.kept.values (D.told disks.old) (D.told disks.new) }
+        ensures round { self.new.kept.round ≡ self.old.kept.round }
         ensures same { self.new.setup ≡ self.old.setup }
         ensures calls { (w : World) → ((output : Made) → IsMade (F.meaning functions.now) self.old.setup.shape attempt.now.task read.lists.items output → IsRightOutput w self.old.kept.round output) → RightWork D.Disks w disks.old disks.new (IfErr result (λ fault. work.AtMissed fault ⊥)) }
         ensures disks { Leaves D.Disks self.old.setup.schedule.nodes disks.old disks.new }
@@ -154,6 +168,7 @@ impl State {
         ensures shape { IsWellFormed self.now.setup.shape }
         ensures read { IfOk result (ReadOrStarved self.now attempt.now (D.shows_damage disks.old) (D.told disks.old) (D.told disks.new)) }
         ensures stopped { IfErr result (StoppedIn (read_plan self.now attempt.now) (D.told disks.old) (D.told disks.new)) }
+        ensures asked { ReadsCopies self.now.kept.table.copies (D.told disks.old) (D.told disks.new) }
         ensures valid { (w : World) (copies : List Copy) → Stands w copies (D.told disks.old) → Stands w copies (D.told disks.new) }
         ensures calls { (w : World) → Stands w self.now.kept.table.copies (D.told disks.old) → RightWork D.Disks w disks.old disks.new (IfErr result (λ fault. work.AtMissed fault ⊥)) }
         ensures disks { Leaves D.Disks self.now.setup.schedule.nodes disks.old disks.new }
@@ -204,6 +219,9 @@ impl State {
         ensures begun { OnErr result (Begun (commit_plan self.old.setup attempt.now counts self.old.plain) (D.told disks.old) (D.told disks.new)) }
         ensures valid { OnOk result ((w : World) → IsTextOf w.shape name.now bytes.now (value_of w name.now) → Stands w self.old.kept.table.copies (D.told disks.old) → Stands w self.new.kept.table.copies (D.told disks.new)) }
         ensures digests { OnErr result ((w : World) → IsTextOf w.shape name.now bytes.now (value_of w name.now) → Stands w self.old.kept.table.copies (D.told disks.old) → Stands w self.new.kept.table.copies None) }
+        ensures agree { OnOk result (KeepsDigests self.old.kept.table.copies self.new.kept.table.copies (D.told disks.old) (D.told disks.new)) }
+        ensures asks { AsksByDigests self.old.kept.table.copies (D.told disks.old) (D.told disks.new) }
+        ensures wrote { CallsHave (IsWriteOf name.now bytes.now) (D.told disks.old) (D.told disks.new) }
         ensures values { self.new.kept.values ≡ self.old.kept.values }
         ensures round { self.new.kept.round ≡ self.old.kept.round }
         ensures same { self.new.setup ≡ self.old.setup }

@@ -15,6 +15,8 @@ ghost use Rattle.run_model.specs.Runs.{load, loaded};
 ghost use Rattle.run_model.specs.Turns.{turn};
 ghost use Rattle.valid_copies.specs.Calls.{Begun, Follows};
 ghost use Rattle.valid_copies.specs.RightCalls.{RightCalls};
+ghost use Rattle.valid_copies.specs.LastWrites.{AsksByDigests, DigestsAgree, KeepsDigests};
+ghost use Rattle.cluster_core.specs.Origins.{AreAnswers, MadeOfReads};
 
 use crate::fault::CoreFault;
 use crate::finished::Finished;
@@ -77,6 +79,7 @@ impl Cluster {
         ensures begun { OnErr result (Begun (load (setup_of shape schedule)) (D.told disks.old) (D.told disks.new)) }
         ensures only { IfErr result IsDeviceOrMemory }
         ensures stands { IfOk result (λ cluster. (w : World) → IsOver shape tables.now schedule.block w → StandsFor w cluster.state.kept (D.told disks.new)) }
+        ensures agree { IfOk result (λ cluster. DigestsAgree cluster.state.kept.table.copies (D.told disks.new)) }
         ensures texts { (w : World) → IsOver shape tables.now schedule.block w → OnTold (RightCalls w) (D.told disks.old) (D.told disks.new) }
         ensures disks { Leaves D.Disks schedule.nodes disks.old disks.new }
         ensures device { IfErr result (λ fault. AtDevice fault (Rose (D.faults disks.old) (D.faults disks.new))) }
@@ -114,6 +117,11 @@ impl Cluster {
         ensures chain { self.old.answered ≡ None → IsOfChain self.old.state }
         ensures still { self.old.answered ≡ None → IfErr result (λ fault. AtRefusal fault (StaysRight (F.meaning functions.now) self.old.state.setup (D.shows_damage disks.old) (D.told disks.old) (D.told disks.new) self.old.state.kept self.new.state.kept)) }
         ensures keeps { self.old.answered ≡ None → OnErr result (KeepsRight (F.meaning functions.now) self.old.state.setup (D.shows_damage disks.old) (D.told disks.old) self.old.state.kept self.new.state.kept) }
+        ensures agree { self.old.answered ≡ None → OnOk result (KeepsDigests self.old.state.kept.table.copies self.new.state.kept.table.copies (D.told disks.old) (D.told disks.new)) }
+        ensures agree_still { self.old.answered ≡ None → IfErr result (λ fault. AtRefusal fault (KeepsDigests self.old.state.kept.table.copies self.new.state.kept.table.copies (D.told disks.old) (D.told disks.new))) }
+        ensures asks { self.old.answered ≡ None → AsksByDigests self.old.state.kept.table.copies (D.told disks.old) (D.told disks.new) }
+        ensures made { self.old.answered ≡ None → MadeOfReads (F.meaning functions.now) self.old.state.setup.shape self.new.state.kept.round self.old.state.kept.values self.new.state.kept.values (D.told disks.old) (D.told disks.new) }
+        ensures parts { self.old.answered ≡ None → IfOk result (λ it. IfSome (finished_in it) (λ it. AreAnswers self.old.state.setup.shape it.parts (D.told disks.old) (D.told disks.new))) }
         ensures answers { self.old.answered ≡ None → self.new.answered ≡ answer_in result }
         ensures kept { IfSome self.old.answered (λ answer. Repeats turned.Finished answer result × (self.new ≡ self.old) × (disks.new ≡ disks.old)) }
         ensures running { RunsUntil self.new.answered self.new.state }
@@ -141,14 +149,17 @@ impl Cluster {
         disks: &mut D,
     ) -> Result<Finished, CoreFault>
         requires fits { FunctionsFit (F.meaning functions.now) self.old.state.setup.shape }
-        ensures finished { self.old.answered ≡ None → IfOk result (RanToEnd self.old.state (D.told disks.old) self.new.state (D.told disks.new)) }
-        ensures refused { self.old.answered ≡ None → IfErr result (RanToFault self.old.state (D.told disks.old) self.new.state (D.told disks.new)) }
+        ensures finished { self.old.answered ≡ None → IfOk result (RanToEnd (F.meaning functions.now) self.old.state (D.told disks.old) self.new.state (D.told disks.new)) }
+        ensures refused { self.old.answered ≡ None → IfErr result (RanToFault (F.meaning functions.now) self.old.state (D.told disks.old) self.new.state (D.told disks.new)) }
         ensures right { self.old.answered ≡ None → IfOk result (λ it. IsRightAfter (F.meaning functions.now) self.old.state (D.shows_damage disks.old) (D.told disks.old) (D.told disks.new) self.new.state.kept (Some it)) }
         ensures texts { self.old.answered ≡ None → D.shows_damage disks.old → OverRight (F.meaning functions.now) self.old.state.setup (D.told disks.old) self.old.state.kept (λ w. OnTold (RightCalls w) (D.told disks.old) (D.told disks.new)) }
         ensures unmissed { self.old.answered ≡ None → D.sound disks.old → OverRight (F.meaning functions.now) self.old.state.setup (D.told disks.old) self.old.state.kept (λ _. (D.misses disks.new ≡ D.misses disks.old) × IfErr result (λ fault. AtMissed fault ⊥)) }
         ensures by_chain { self.old.answered ≡ None → IsByChain (F.meaning functions.now) self.old.state (D.shows_damage disks.old) (D.told disks.old) (D.told disks.new) self.new.state.plain result }
         ensures still { self.old.answered ≡ None → IfErr result (λ fault. AtRefusal fault (StaysRight (F.meaning functions.now) self.old.state.setup (D.shows_damage disks.old) (D.told disks.old) (D.told disks.new) self.old.state.kept self.new.state.kept)) }
         ensures keeps { self.old.answered ≡ None → OnErr result (KeepsRight (F.meaning functions.now) self.old.state.setup (D.shows_damage disks.old) (D.told disks.old) self.old.state.kept self.new.state.kept) }
+        ensures agree { self.old.answered ≡ None → OnOk result (KeepsDigests self.old.state.kept.table.copies self.new.state.kept.table.copies (D.told disks.old) (D.told disks.new)) }
+        ensures agree_still { self.old.answered ≡ None → IfErr result (λ fault. AtRefusal fault (KeepsDigests self.old.state.kept.table.copies self.new.state.kept.table.copies (D.told disks.old) (D.told disks.new))) }
+        ensures asks { self.old.answered ≡ None → AsksByDigests self.old.state.kept.table.copies (D.told disks.old) (D.told disks.new) }
         ensures answers { self.old.answered ≡ None → self.new.answered ≡ Some (answer_of result) }
         ensures kept { IfSome self.old.answered (λ answer. Repeats (λ it. it) answer result × (self.new ≡ self.old) × (disks.new ≡ disks.old)) }
         ensures same { self.new.state.setup ≡ self.old.state.setup }
@@ -185,6 +196,11 @@ impl Cluster {
         ensures chain { IsOfChain self.old.state }
         ensures still { IfErr result (λ fault. AtRefusal fault (StaysRight (F.meaning functions.now) self.old.state.setup (D.shows_damage disks.old) (D.told disks.old) (D.told disks.new) self.old.state.kept self.new.state.kept)) }
         ensures keeps { OnErr result (KeepsRight (F.meaning functions.now) self.old.state.setup (D.shows_damage disks.old) (D.told disks.old) self.old.state.kept self.new.state.kept) }
+        ensures agree { OnOk result (KeepsDigests self.old.state.kept.table.copies self.new.state.kept.table.copies (D.told disks.old) (D.told disks.new)) }
+        ensures agree_still { IfErr result (λ fault. AtRefusal fault (KeepsDigests self.old.state.kept.table.copies self.new.state.kept.table.copies (D.told disks.old) (D.told disks.new))) }
+        ensures asks { AsksByDigests self.old.state.kept.table.copies (D.told disks.old) (D.told disks.new) }
+        ensures made { MadeOfReads (F.meaning functions.now) self.old.state.setup.shape self.new.state.kept.round self.old.state.kept.values self.new.state.kept.values (D.told disks.old) (D.told disks.new) }
+        ensures parts { IfOk result (λ it. IfSome (finished_in it) (λ it. AreAnswers self.old.state.setup.shape it.parts (D.told disks.old) (D.told disks.new))) }
         ensures answers { self.new.answered ≡ answer_in result }
         ensures running { RunsUntil self.new.answered self.new.state }
         ensures same { self.new.state.setup ≡ self.old.state.setup }
@@ -232,12 +248,15 @@ impl Cluster {
         requires open { self.old.answered ≡ None }
         requires running { RunsUntil self.old.answered self.old.state }
         requires fits { FunctionsFit (F.meaning functions.now) self.old.state.setup.shape }
-        ensures finished { IfOk result (RanToEnd self.old.state (D.told disks.old) self.new.state (D.told disks.new)) }
-        ensures refused { IfErr result (RanToFault self.old.state (D.told disks.old) self.new.state (D.told disks.new)) }
+        ensures finished { IfOk result (RanToEnd (F.meaning functions.now) self.old.state (D.told disks.old) self.new.state (D.told disks.new)) }
+        ensures refused { IfErr result (RanToFault (F.meaning functions.now) self.old.state (D.told disks.old) self.new.state (D.told disks.new)) }
         ensures right { IfOk result (λ it. IsRightAfter (F.meaning functions.now) self.old.state (D.shows_damage disks.old) (D.told disks.old) (D.told disks.new) self.new.state.kept (Some it)) }
         ensures by_chain { IsByChain (F.meaning functions.now) self.old.state (D.shows_damage disks.old) (D.told disks.old) (D.told disks.new) self.new.state.plain result }
         ensures still { IfErr result (λ fault. AtRefusal fault (StaysRight (F.meaning functions.now) self.old.state.setup (D.shows_damage disks.old) (D.told disks.old) (D.told disks.new) self.old.state.kept self.new.state.kept)) }
         ensures keeps { OnErr result (KeepsRight (F.meaning functions.now) self.old.state.setup (D.shows_damage disks.old) (D.told disks.old) self.old.state.kept self.new.state.kept) }
+        ensures agree { OnOk result (KeepsDigests self.old.state.kept.table.copies self.new.state.kept.table.copies (D.told disks.old) (D.told disks.new)) }
+        ensures agree_still { IfErr result (λ fault. AtRefusal fault (KeepsDigests self.old.state.kept.table.copies self.new.state.kept.table.copies (D.told disks.old) (D.told disks.new))) }
+        ensures asks { AsksByDigests self.old.state.kept.table.copies (D.told disks.old) (D.told disks.new) }
         ensures answers { self.new.answered ≡ Some (answer_of result) }
         ensures same { self.new.state.setup ≡ self.old.state.setup }
         ensures calls { CallsRight D.Disks (F.meaning functions.now) self.old.state.setup self.old.state.kept disks.old disks.new (IfErr result (λ fault. AtMissed fault ⊥)) }

@@ -18,6 +18,7 @@ ghost use Rattle.valid_copies.specs.Faults.{AtDevice, AtMissed};
 ghost use Rattle.valid_copies.specs.RightCalls.{RightCalls};
 ghost use Rattle.valid_copies.specs.Stands.{Stands};
 ghost use Rattle.valid_copies.specs.Writes.{table_with};
+ghost use Rattle.valid_copies.specs.LastWrites.{DigestsAgree};
 
 use hal_base::{CopyIn, Memory, Record, Records, Schema, Shape, Tables};
 use hal_outside::{DiskFault, Disks};
@@ -54,6 +55,7 @@ pub fn fill<D: Disks>(
     ensures table { IfOk result (IsLoaded (setup_of shape.now schedule.now)) }
     ensures stands { IfOk result (λ table. (w : World) → IsOver shape.now tables.now schedule.now.block w → Stands w table.copies (D.told disks.new)) }
     ensures texts { (w : World) → IsOver shape.now tables.now schedule.now.block w → OnTold (RightCalls w) (D.told disks.old) (D.told disks.new) }
+    ensures agree { IfOk result (λ table. DigestsAgree table.copies (D.told disks.new)) }
     ensures disks { Leaves D.Disks schedule.now.nodes disks.old disks.new }
     ensures device { IfErr result (λ fault. AtDevice fault (Rose (D.faults disks.old) (D.faults disks.new))) }
     ensures missed { IfErr result (λ fault. AtMissed fault ⊥) }
@@ -77,6 +79,7 @@ fn fill_all<D: Disks>(alloc: Global, disks: &mut D, given: &Given) -> Result<Tab
     ensures begun { OnErr result (AddedSome (load_calls (setup_of given.now.shape.now given.now.schedule.now) given.now.tables.now) (D.told disks.old) (D.told disks.new)) }
     ensures table { IfOk result (λ table. table ≡ table_with (load_files (setup_of given.now.shape.now given.now.schedule.now) given.now.tables.now) (empty_table given.now.schedule.now.nodes)) }
     ensures valid { IfOk result (λ table. (w : World) → AllByRecursion (HasItsText w) (load_files (setup_of given.now.shape.now given.now.schedule.now) given.now.tables.now) → Stands w table.copies (D.told disks.new)) }
+    ensures agree { IfOk result (λ table. DigestsAgree table.copies (D.told disks.new)) }
     ensures disks { Leaves D.Disks given.now.schedule.now.nodes disks.old disks.new }
     ensures device { IfErr result (λ fault. AtDevice fault (Rose (D.faults disks.old) (D.faults disks.new))) }
     ensures missed { IfErr result (λ fault. AtMissed fault ⊥) }

@@ -1,4 +1,4 @@
-ghost use Rattle.std.specs.Prelude.{◌≤◌, List, IfErr, IfOk};
+ghost use Rattle.std.specs.Prelude.{IfErr, IfOk, IfSome, List, [], ◌∷◌, ◌≤◌};
 ghost use Rattle.hal_base.specs.Shapes.{IsWellFormed};
 ghost use Rattle.hal_outside.specs.Told.{Rose};
 ghost use Rattle.name_values.specs.Values.{World};
@@ -10,6 +10,8 @@ ghost use Rattle.valid_copies.specs.Readings.{IsFile};
 ghost use Rattle.valid_copies.specs.RightCalls.{RightWork};
 ghost use Rattle.valid_copies.specs.Stands.{Stands};
 ghost use Rattle.cluster_core.specs.Parts.{AreValuesOf, IsValueOf, PartFollows, PartStopped, PartsFollow, PartsStopped};
+ghost use Rattle.valid_copies.specs.LastWrites.{ReadsCopies};
+ghost use Rattle.cluster_core.specs.Origins.{AreAnswers};
 
 use hal_base::{Memory, Parts, Records, Shape};
 use hal_outside::Disks;
@@ -31,6 +33,8 @@ pub fn read_part<D: Disks>(
     ensures read { IfOk result (PartFollows table.now name.now (D.told disks.old) (D.told disks.new)) }
     ensures stopped { IfErr result (PartStopped table.now name.now (D.told disks.old) (D.told disks.new)) }
     ensures value { IfOk result (IsValueOf shape.now table.now (D.shows_damage disks.old) (D.told disks.old) name.now) }
+    ensures asked { ReadsCopies table.now.copies (D.told disks.old) (D.told disks.new) }
+    ensures answers { IfOk result (λ found. IfSome found (λ rows. AreAnswers shape.now (rows ∷ []) (D.told disks.old) (D.told disks.new))) }
     ensures valid { (w : World) (copies : List Copy) → Stands w copies (D.told disks.old) → Stands w copies (D.told disks.new) }
     ensures puts_stay { PutStays (D.told disks.old) (D.told disks.new) }
     ensures faults_stay { D.faults disks.old ≤ D.faults disks.new }
@@ -70,6 +74,8 @@ pub fn read_parts<D: Disks>(
     ensures read { IfOk result (PartsFollow shape.now table.now round (D.told disks.old) (D.told disks.new)) }
     ensures stopped { IfErr result (PartsStopped shape.now table.now round (D.told disks.old) (D.told disks.new)) }
     ensures value { IfOk result (AreValuesOf shape.now table.now (D.shows_damage disks.old) (D.told disks.old) (last_outs shape.now round)) }
+    ensures asked { ReadsCopies table.now.copies (D.told disks.old) (D.told disks.new) }
+    ensures answers { IfOk result (λ found. IfSome found (λ parts. AreAnswers shape.now parts (D.told disks.old) (D.told disks.new))) }
     ensures valid { (w : World) (copies : List Copy) → Stands w copies (D.told disks.old) → Stands w copies (D.told disks.new) }
     ensures puts_stay { PutStays (D.told disks.old) (D.told disks.new) }
     ensures faults_stay { D.faults disks.old ≤ D.faults disks.new }

@@ -1,16 +1,17 @@
-ghost use Rattle.std.specs.Prelude.{◌≡◌, ℕ, ◌+◌, ◌≤◌, ◌<◌, ◌++◌, map, IfErr, None, OnErr, OnOk, Option};
+ghost use Rattle.std.specs.Prelude.{IfErr, None, OnErr, OnOk, Option, map, ℕ, ◌++◌, ◌+◌, ◌<◌, ◌≡◌, ◌≤◌};
 ghost use Rattle.hal_outside.specs.Told.{Rose};
 ghost use Rattle.name_values.specs.Values.{World};
 ghost use Rattle.run_model.specs.Plans.{gives};
 ghost use Rattle.run_model.specs.Removals.{clear};
 ghost use Rattle.run_model.specs.State.{PlainCluster, with_copies};
 ghost use Rattle.run_model.specs.Tasks.{tasks_of_round};
-ghost use Rattle.valid_copies.specs.Calls.{Begun, Follows};
+ghost use Rattle.valid_copies.specs.Calls.{Begun, CallsHave, Follows};
 ghost use Rattle.valid_copies.specs.Faults as work;
 ghost use Rattle.valid_copies.specs.RightCalls.{RightWork};
 ghost use Rattle.valid_copies.specs.Stands.{Stands};
 ghost use Rattle.cluster_core.specs.Disks.{Leaves};
 ghost use Rattle.cluster_core.specs.RoundChange.{dropped, entered, lines_of};
+ghost use Rattle.valid_copies.specs.LastWrites.{AsksByDigests, KeepsDigests, WritesNothing};
 
 use crate::state::State;
 use crate::values::forget;
@@ -50,6 +51,9 @@ impl State {
         ensures others { OnOk result (self.new.plain ≡ with_copies self.new.plain.copies self.old.plain) }
         ensures valid { OnOk result ((w : World) → Stands w self.old.kept.table.copies (D.told disks.old) → Stands w self.new.kept.table.copies (D.told disks.new)) }
         ensures table_kept { OnErr result (self.new.kept.table ≡ self.old.kept.table) }
+        ensures agree { OnOk result (KeepsDigests self.old.kept.table.copies self.new.kept.table.copies (D.told disks.old) (D.told disks.new)) }
+        ensures asks { AsksByDigests self.old.kept.table.copies (D.told disks.old) (D.told disks.new) }
+        ensures wrote_nothing { CallsHave WritesNothing (D.told disks.old) (D.told disks.new) }
         ensures same { self.new.setup ≡ self.old.setup }
         ensures failures { self.new.plain.failures ≡ self.old.plain.failures }
         ensures values { self.new.kept.values ≡ self.old.kept.values }

@@ -14,6 +14,8 @@ ghost use Rattle.cluster_core.specs.Disks.{Leaves};
 ghost use Rattle.cluster_core.specs.Faults.{AtDevice, AtMissed, AtRefusal, RefusedIn};
 ghost use Rattle.cluster_core.specs.Turns.{IsOfChain, IsRight, IsRunning, decision_in, turned_to};
 ghost use Rattle.cluster_core.specs.Works.{CallsRight, KeepsRight, StandsFor, StaysRight, world_of};
+ghost use Rattle.valid_copies.specs.LastWrites.{AsksByDigests, KeepsDigests};
+ghost use Rattle.cluster_core.specs.Origins.{AreAnswers, MadeOfReads};
 
 use crate::fault::CoreFault;
 use crate::finished::Finished;
@@ -40,6 +42,11 @@ impl State {
         ensures chain { IsOfChain self.old }
         ensures still { IfErr result (λ fault. AtRefusal fault (StaysRight (F.meaning functions.now) self.old.setup (D.shows_damage disks.old) (D.told disks.old) (D.told disks.new) self.old.kept self.new.kept)) }
         ensures keeps { OnErr result (KeepsRight (F.meaning functions.now) self.old.setup (D.shows_damage disks.old) (D.told disks.old) self.old.kept self.new.kept) }
+        ensures agree { OnOk result (KeepsDigests self.old.kept.table.copies self.new.kept.table.copies (D.told disks.old) (D.told disks.new)) }
+        ensures agree_still { IfErr result (λ fault. AtRefusal fault (KeepsDigests self.old.kept.table.copies self.new.kept.table.copies (D.told disks.old) (D.told disks.new))) }
+        ensures asks { AsksByDigests self.old.kept.table.copies (D.told disks.old) (D.told disks.new) }
+        ensures made { MadeOfReads (F.meaning functions.now) self.old.setup.shape self.new.kept.round self.old.kept.values self.new.kept.values (D.told disks.old) (D.told disks.new) }
+        ensures parts { IfOk result (λ finished. IfSome finished (λ it. AreAnswers self.old.setup.shape it.parts (D.told disks.old) (D.told disks.new))) }
         ensures same { self.new.setup ≡ self.old.setup }
         ensures calls { CallsRight D.Disks (F.meaning functions.now) self.old.setup self.old.kept disks.old disks.new (IfErr result (λ fault. AtMissed fault ⊥)) }
         ensures disks { Leaves D.Disks self.old.setup.schedule.nodes disks.old disks.new }
@@ -72,6 +79,10 @@ impl State {
         ensures right { OnOk result (StaysRight (F.meaning functions.now) self.old.setup (D.shows_damage disks.old) (D.told disks.old) (D.told disks.new) self.old.kept self.new.kept) }
         ensures still { IfErr result (λ fault. AtRefusal fault (StaysRight (F.meaning functions.now) self.old.setup (D.shows_damage disks.old) (D.told disks.old) (D.told disks.new) self.old.kept self.new.kept)) }
         ensures keeps { OnErr result (KeepsRight (F.meaning functions.now) self.old.setup (D.shows_damage disks.old) (D.told disks.old) self.old.kept self.new.kept) }
+        ensures agree { OnOk result (KeepsDigests self.old.kept.table.copies self.new.kept.table.copies (D.told disks.old) (D.told disks.new)) }
+        ensures agree_still { IfErr result (λ fault. AtRefusal fault (KeepsDigests self.old.kept.table.copies self.new.kept.table.copies (D.told disks.old) (D.told disks.new))) }
+        ensures asks { AsksByDigests self.old.kept.table.copies (D.told disks.old) (D.told disks.new) }
+        ensures made { MadeOfReads (F.meaning functions.now) self.old.setup.shape self.new.kept.round self.old.kept.values self.new.kept.values (D.told disks.old) (D.told disks.new) }
         ensures same { self.new.setup ≡ self.old.setup }
         ensures calls { CallsRight D.Disks (F.meaning functions.now) self.old.setup self.old.kept disks.old disks.new (IfErr result (λ fault. AtMissed fault ⊥)) }
         ensures disks { Leaves D.Disks self.old.setup.schedule.nodes disks.old disks.new }

@@ -8,6 +8,8 @@ ghost use Rattle.valid_copies.specs.RightCalls.{RightWork};
 ghost use Rattle.valid_copies.specs.Stands.{Stands};
 ghost use Rattle.cluster_core.specs.Disks.{Leaves};
 ghost use Rattle.cluster_core.specs.Finishing.{BeganToWrite, CanFinish, WroteAll, commit_plan, goes_further};
+ghost use Rattle.valid_copies.specs.LastWrites.{AsksByDigests, IsWriteOf, KeepsDigests};
+ghost use Rattle.valid_copies.specs.Calls.{CallsHave};
 
 use crate::state::State;
 use hal_outside::Disks;
@@ -34,6 +36,9 @@ impl State {
         ensures begun { OnErr result (BeganToWrite self.old.setup attempt.now self.old.plain (D.told disks.old) (D.told disks.new)) }
         ensures valid { OnOk result ((w : World) → IsTextOf w.shape name.now bytes.now (value_of w name.now) → Stands w self.old.kept.table.copies (D.told disks.old) → Stands w self.new.kept.table.copies (D.told disks.new)) }
         ensures digests { OnErr result ((w : World) → IsTextOf w.shape name.now bytes.now (value_of w name.now) → Stands w self.old.kept.table.copies (D.told disks.old) → Stands w self.new.kept.table.copies None) }
+        ensures agree { OnOk result (KeepsDigests self.old.kept.table.copies self.new.kept.table.copies (D.told disks.old) (D.told disks.new)) }
+        ensures asks { AsksByDigests self.old.kept.table.copies (D.told disks.old) (D.told disks.new) }
+        ensures wrote { CallsHave (IsWriteOf name.now bytes.now) (D.told disks.old) (D.told disks.new) }
         ensures values { self.new.kept.values ≡ self.old.kept.values }
         ensures round { self.new.kept.round ≡ self.old.kept.round }
         ensures same { self.new.setup ≡ self.old.setup }

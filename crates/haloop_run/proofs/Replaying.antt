@@ -38,14 +38,15 @@ use Rattle.run_model.specs.Runs.{load, loaded, run, state_of, turns}
 use Rattle.run_model.specs.Turns.{Turned, acted, ends, turn}
 use Rattle.valid_copies.proofs.Following.{begun_first, begun_none}
 use Rattle.valid_copies.proofs.Others.{tells_on}
-use Rattle.valid_copies.proofs.Rightly.{right_more, right_none}
+use Rattle.valid_copies.proofs.Adding.{such_more, such_none}
 use Rattle.valid_copies.specs.Calls.{Begun, Follows, made_of}
-use Rattle.valid_copies.specs.RightCalls.{RightCalls}
+use Rattle.valid_copies.specs.RightCalls.{IsRightCall, RightCalls}
 use Rattle.haloop_run.specs.Replays.{ArePut, Ending, RunsTo, block_count, broken, computed, finished, missed, setup_of, task_failed}
 use Rattle.haloop_run.specs.Statuses.{AreTrue, HasCopies, Ran}
 use Rattle.haloop_run.specs.steps.Runs.{IsLoadedFor, IsRefusedLoad, IsRefusedRun, IsReplayed}
 use Rattle.function_meaning.specs.steps.MeaningLaws.{key_law, round_law}
 use Rattle.hal_base.specs.declared.fields.Schema.{Schema}
+use Rattle.hal_base.specs.Meaning.{Meaning}
 use Rattle.hal_base.specs.declared.record.Record.{Record}
 use Rattle.hal_base.specs.declared.shape.Shape.{Shape}
 use Rattle.hal_base.specs.Shapes.{IsWellFormed}
@@ -147,9 +148,9 @@ is_decision round decision = ap (λ b. cond b decision None) (eq-eqb round round
 told_by_turn : (setup : Setup) (decision : Option EndWord) (c : PlainCluster) (before after : Option DiskTold) (rest : Plan Turned) → Failures c → Follows (turn setup decision c) before after rest → Always (λ turned. Failures (state_of turned)) Failures rest
 told_by_turn setup decision c before after rest h f = always_leaves (λ turned. Failures (state_of turned)) Failures (turn setup decision c) rest (each made_of f.calls) (failures_are_told setup decision c h) f.leads
 
-told_by_turns : (n : ℕ) (old new : Seen) (before after : Option DiskTold) → Acted n old before new after → Failures old.plain → Failures new.plain
-told_by_turns zero old new before after a h = subst (λ (s : Seen). Failures s.plain) (sym a.0) h
-told_by_turns (suc n) old new before after a h = told_by_turn a.0.setup (decision_in a.0) a.0.plain a.1 after (gives (acted new.plain)) (told_by_turns n old a.0 before a.1 a.2 h) a.3.follows
+told_by_turns : (m : Meaning) (n : ℕ) (old new : Seen) (before after : Option DiskTold) → Acted m n old before new after → Failures old.plain → Failures new.plain
+told_by_turns m zero old new before after a h = subst (λ (s : Seen). Failures s.plain) (sym a.0) h
+told_by_turns m (suc n) old new before after a h = told_by_turn a.0.setup (decision_in a.0) a.0.plain a.1 after (gives (acted new.plain)) (told_by_turns m n old a.0 before a.1 a.2 h) a.3.follows
 
 -- ---- how a run ended
 
@@ -169,9 +170,9 @@ as_ending setup decisions n before after last (Err (core.Device device)) c = (n,
 as_ending setup decisions n before after last (Err core.Memory) c = (n, c)
 
 -- what turns led to, whatever it was
-abbrev CameBy : Seen → Option DiskTold → Seen → Option DiskTold → Result Finished CoreFault → Type 0
-CameBy old before new after (Ok it) = RanToEnd old before new after it
-CameBy old before new after (Err fault) = RanToFault old before new after fault
+abbrev CameBy : Meaning → Seen → Option DiskTold → Seen → Option DiskTold → Result Finished CoreFault → Type 0
+CameBy m old before new after (Ok it) = RanToEnd m old before new after it
+CameBy m old before new after (Err fault) = RanToFault m old before new after fault
 
 -- each copy that is kept was put
 are_put : (w : World) (copies : List Copy) (told : DiskTold) → AllByRecursion (λ (copy : Copy). HasText w copy.name) copies → AllByRecursion (WasPut w told) copies → ArePut w (bare copies) told
@@ -193,7 +194,7 @@ module _ {D : Type 0} (g : Disks D) (program : Whole) (schedule : Schedule) (tab
   none_ran disks = record {
     calls = (none, (0, begun_none (run 0 setup none) (g.told disks)));
     by_chain = λ t. (0, begun_none (run 0 setup (chain_decision world)) (g.told disks));
-    texts = λ t. right_none world (g.told disks);
+    texts = λ t. such_none (IsRightCall world) (g.told disks);
     unmissed = λ s t. refl;
     left = leaves_none g schedule.nodes disks;
   }
@@ -233,21 +234,21 @@ module _ {D : Type 0} (g : Disks D) (program : Whole) (schedule : Schedule) (tab
       of_world : (P : World → Type 0) → OverRight (meaning_of program) cluster.state.setup (g.told mid) cluster.state.kept P → IsSome (g.told old) → P world
       of_world P o t = (of_setup (λ s. OverRight (meaning_of program) s (g.told mid) cluster.state.kept P) o) tables fits (tells_later t) (is.stands world its_world)
 
-      module _ (result : Result Finished CoreFault) (came : CameBy cluster.state (g.told mid) state (g.told new) result) (by_chain : IsByChain (meaning_of program) cluster.state (g.shows_damage mid) (g.told mid) (g.told new) state.plain result)
+      module _ (result : Result Finished CoreFault) (came : CameBy (meaning_of program) cluster.state (g.told mid) state (g.told new) result) (by_chain : IsByChain (meaning_of program) cluster.state (g.shows_damage mid) (g.told mid) (g.told new) state.plain result)
           (run_texts : g.shows_damage mid → OverRight (meaning_of program) cluster.state.setup (g.told mid) cluster.state.kept (λ w. OnTold (RightCalls w) (g.told mid) (g.told new)))
           (run_unmissed : g.sound mid → OverRight (meaning_of program) cluster.state.setup (g.told mid) cluster.state.kept (λ w. (g.misses new ≡ g.misses mid) × IfErr result (λ fault. AtMissed fault ⊥))) where
-        came_to : (result : Result Finished CoreFault) → CameBy cluster.state (g.told mid) state (g.told new) result → (decisions : ℕ → Option EndWord) × RunsTo setup decisions (g.told old) (g.told new) state.plain (ending_of result)
+        came_to : (result : Result Finished CoreFault) → CameBy (meaning_of program) cluster.state (g.told mid) state (g.told new) result → (decisions : ℕ → Option EndWord) × RunsTo setup decisions (g.told old) (g.told new) state.plain (ending_of result)
         came_to (Ok it) r =
             let d = decided state.plain.round (Some it.end) in (
               d,
               as_ending setup d (suc r.ran.count) (g.told old) (g.told new) state.plain (Ok it)
-                  (loaded_to_end setup cluster state (g.told old) (g.told mid) (g.told new) is.calls is.begun it r d (goes_on state.plain.round (Some it.end), is_decision state.plain.round (Some it.end))),
+                  (loaded_to_end setup cluster state (g.told old) (g.told mid) (g.told new) is.calls is.begun (meaning_of program) it r d (goes_on state.plain.round (Some it.end), is_decision state.plain.round (Some it.end))),
             )
         came_to (Err fault) r =
             let d = decided r.last.plain.round (decision_in r.last) in (
               d,
               as_ending setup d (suc r.ran.count) (g.told old) (g.told new) state.plain (Err fault)
-                  (loaded_to_fault setup cluster state (g.told old) (g.told mid) (g.told new) is.calls is.begun fault r d (goes_on r.last.plain.round (decision_in r.last), λ e. is_decision r.last.plain.round (decision_in r.last))),
+                  (loaded_to_fault setup cluster state (g.told old) (g.told mid) (g.told new) is.calls is.begun (meaning_of program) fault r d (goes_on r.last.plain.round (decision_in r.last), λ e. is_decision r.last.plain.round (decision_in r.last))),
             )
 
         chained : AreTrue g old → RunsTo setup (chain_decision world) (g.told old) (g.told new) state.plain (ending_of result)
@@ -259,7 +260,7 @@ module _ {D : Type 0} (g : Disks D) (program : Whole) (schedule : Schedule) (tab
         run_ran = record {
           calls = came_to result came;
           by_chain = chained;
-          texts = λ t. right_more world (g.told old) (g.told mid) (g.told new) (texts world its_world) (of_world (λ w. OnTold (RightCalls w) (g.told mid) (g.told new)) (run_texts (left.damage_shown t.0)) t.1);
+          texts = λ t. such_more (IsRightCall world) (g.told old) (g.told mid) (g.told new) (texts world its_world) (of_world (λ w. OnTold (RightCalls w) (g.told mid) (g.told new)) (run_texts (left.damage_shown t.0)) t.1);
           unmissed = λ s t. (of_world (λ w. (g.misses new ≡ g.misses mid) × IfErr result (λ fault. AtMissed fault ⊥)) (run_unmissed (left.soundness_kept s)) t).0 ∙ not_missed t;
           left = all_left;
         }
@@ -287,14 +288,14 @@ module _ {D : Type 0} (g : Disks D) (program : Whole) (schedule : Schedule) (tab
       begun_told : Failures cluster.state.plain
       begun_told = subst Failures (sym is.begun.plain_is) (λ task. refl)
 
-      its_failures : (task : Task) → RanToFault cluster.state (g.told mid) state (g.told new) (core.TaskFailed task) → number_of (fails_at task) state.plain.journal ≡ schedule.attempts
+      its_failures : (task : Task) → RanToFault (meaning_of program) cluster.state (g.told mid) state (g.told new) (core.TaskFailed task) → number_of (fails_at task) state.plain.journal ≡ schedule.attempts
       its_failures task r =
-          let last = told_by_turns r.ran.count cluster.state r.last (g.told mid) r.between r.ran.acts begun_told in
+          let last = told_by_turns (meaning_of program) r.ran.count cluster.state r.last (g.told mid) r.between r.ran.acts begun_told in
           let told = told_by_turn r.last.setup (decision_in r.last) r.last.plain r.between (g.told new) (refuses state.plain (why.TaskFailed task)) last r.refused in
           let cause = caused_leaves (Cause r.last.setup) (turn r.last.setup (decision_in r.last) r.last.plain) (refuses state.plain (why.TaskFailed task)) (each made_of r.refused.calls) (turns_have_causes r.last.setup (decision_in r.last) r.last.plain) r.refused.leads in
           sym (told task) ∙ cause ∙ ap (λ (s : Setup). s.schedule.attempts) (r.ran.same ∙ is.begun.setup_is)
 
-      module _ (it : Finished) (came : RanToEnd cluster.state (g.told mid) state (g.told new) it) (by_chain : IsByChain (meaning_of program) cluster.state (g.shows_damage mid) (g.told mid) (g.told new) state.plain (Ok it))
+      module _ (it : Finished) (came : RanToEnd (meaning_of program) cluster.state (g.told mid) state (g.told new) it) (by_chain : IsByChain (meaning_of program) cluster.state (g.shows_damage mid) (g.told mid) (g.told new) state.plain (Ok it))
           (run_texts : g.shows_damage mid → OverRight (meaning_of program) cluster.state.setup (g.told mid) cluster.state.kept (λ w. OnTold (RightCalls w) (g.told mid) (g.told new)))
           (run_unmissed : g.sound mid → OverRight (meaning_of program) cluster.state.setup (g.told mid) cluster.state.kept (λ w. (g.misses new ≡ g.misses mid) × IfErr (Ok it) (λ fault. AtMissed fault ⊥)))
           (right : IsRightAfter (meaning_of program) cluster.state (g.shows_damage mid) (g.told mid) (g.told new) state.kept (Some it))
@@ -322,7 +323,7 @@ module _ {D : Type 0} (g : Disks D) (program : Whole) (schedule : Schedule) (tab
         }
 
       module _ (seen : state.plain ≡ plain_of state.setup.schedule state.kept) (later : (g.faults old ≤ g.faults mid) × (g.misses old ≤ g.misses mid)) where
-        pub run_stops : (fault : CoreFault) → RanToFault cluster.state (g.told mid) state (g.told new) fault → IsByChain (meaning_of program) cluster.state (g.shows_damage mid) (g.told mid) (g.told new) state.plain (Err fault)
+        pub run_stops : (fault : CoreFault) → RanToFault (meaning_of program) cluster.state (g.told mid) state (g.told new) fault → IsByChain (meaning_of program) cluster.state (g.shows_damage mid) (g.told mid) (g.told new) state.plain (Err fault)
             → (g.shows_damage mid → OverRight (meaning_of program) cluster.state.setup (g.told mid) cluster.state.kept (λ w. OnTold (RightCalls w) (g.told mid) (g.told new)))
             → (g.sound mid → OverRight (meaning_of program) cluster.state.setup (g.told mid) cluster.state.kept (λ w. (g.misses new ≡ g.misses mid) × IfErr {T = Finished} (Err fault) (λ fault. AtMissed fault ⊥)))
             → AtRefusal fault (StaysRight (meaning_of program) cluster.state.setup (g.shows_damage mid) (g.told mid) (g.told new) cluster.state.kept state.kept)

@@ -1,5 +1,5 @@
 -- From what a call came to and said, the causes of each status.
-use Rattle.std.proofs.Common.{◌≡◌, ◌≢◌, ℕ, ◌≤◌, ◌⊎◌, List, [], ◌∷◌, ◌++◌, Option, None, Some, Result, Ok, Err, refl, sym, ap, subst, ◌∙◌, inl, inr, length, arith}
+use Rattle.std.proofs.Common.{◌≡◌, ◌≢◌, ℕ, ◌≤◌, ◌⊎◌, List, [], ◌∷◌, ◌++◌, Option, None, Some, IsSome, Result, Ok, Err, refl, sym, ap, subst, ◌∙◌, inl, inr, length, arith}
 use Rattle.std.specs.Option.{option_map}
 use Rattle.std.proofs.Math.Seq.{take-length}
 use Rattle.hal_outside.specs.declared.disks.Disks.{Ghosts as Disks}
@@ -500,6 +500,13 @@ module _ {F D O : Type 0} (g : Files F) (d : Disks D) (h : Sink O) (words : List
   pub began : Came → BeganSome
   began (inl p) = inr (p.asked, p.ask_for, began_at p.asked p.done p.came)
   began (inr n) = inl n.2
+
+  -- over sound disks no read missed, since none does in a run
+  pub unmissed : Came → d.sound held → IsSome (d.told held) → d.misses holds ≡ d.misses held
+  unmissed came sound told = elim (began came) [
+    | inl same ↦ ap d.misses same
+    | inr it ↦ elim it.2 [ inl same ↦ ap d.misses same | inr to ↦ to.ran.unmissed sound told ]
+  ]
 
   -- ---- the other direction
 

@@ -1,4 +1,4 @@
-ghost use Rattle.std.specs.Prelude.{◌≡◌, ◌≤◌, ◌⊎◌, ℕ, IfOk, List};
+ghost use Rattle.std.specs.Prelude.{◌≡◌, ◌≤◌, ◌⊎◌, ℕ, IfOk, IsSome, List};
 ghost use Rattle.hal_outside.specs.Told.{FileMap};
 ghost use Rattle.hal_outside.specs.Calls.{AbsentsRose, Changes, CountsStay, FaultsRose, Gains, Tells, WritesFailed};
 ghost use Rattle.plain_job.specs.declared.ending.End.{End};
@@ -67,6 +67,9 @@ pub fn haloop_top<F: Files, D: Disks, O: Sink>(
     ensures partly { (result ≡ 8) ⊎ (result ≡ 10) → (F.told files.new ≡ F.told files.old)
         ⊎ ((asked : Asked) × AskFor (texts words.now) asked × LeavesSome F.Files D.Disks asked files.old files.new disks.old) }
     ensures began { (result ≡ 8) ⊎ (result ≡ 10) → (disks.new ≡ disks.old) ⊎ ((asked : Asked) × AskFor (texts words.now) asked × BeganRun F.Files D.Disks asked files.old disks.old disks.new) }
+
+    // Whatever is answered: over disks that are sound and tell, no read missed.
+    ensures unmissed { D.sound disks.old → IsSome (D.told disks.old) → D.misses disks.new ≡ D.misses disks.old }
 
     // The other direction: what the words and the files come to is answered, but for 8 and 10; a run may yet be refused.
     ensures usage_answered { IsUsage (texts words.now) → Answers 1 result }

@@ -54,6 +54,7 @@ nodes_with name copies = map (λ copy. copy.node) (of_name name copies)
 abbrev pub up_holders : {A : Type 0} → Name → List ℕ → List (CopyWith A) → List ℕ
 up_holders name up copies = filter (λ node. among node up) (nodes_with name copies)
 
+-- the up nodes that hold a file of this name, in order
 abbrev pub holders : Name → Replicas → List ℕ
 holders name replicas = up_holders name replicas.up replicas.copies
 

@@ -16,8 +16,10 @@ place_of (Ric j s p) node = 3 ∷ j ∷ s ∷ p ∷ node ∷ 0 ∷ []
 place_of (Mic t b) node = 4 ∷ t ∷ b ∷ node ∷ 0 ∷ 0 ∷ []
 place_of (Roc i p) node = 5 ∷ i ∷ p ∷ node ∷ 0 ∷ 0 ∷ []
 
+-- what orders a file: its name and then its node
 abbrev pub place : FileOn → List ℕ
 place it = place_of it.name it.node
 
+-- files in order of their names, and of one name in order of their nodes
 abbrev pub file_cmp : FileOn → FileOn → Ordering
 file_cmp a b = slice_cmp nat_cmp (place a) (place b)

@@ -6,6 +6,7 @@ use Rattle.replica_table.specs.Copies.{Copy}
 use Rattle.replica_table.specs.Sets.{among}
 use Rattle.replica_table.specs.declared.file_on.FileOn.{FileOn}
 
+-- the file of a name on a node
 abbrev pub file_on : Name → ℕ → FileOn
 file_on name node = record { name = name; node = node }
 

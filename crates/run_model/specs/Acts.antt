@@ -30,6 +30,7 @@ use Rattle.run_model.specs.Wanted.{first_missing_block}
 abbrev pub oldest_on : PlainCluster → ℕ → Option Attempt
 oldest_on c node = find (λ (a : Attempt). node == a.node) c.running
 
+-- the lowest of the nodes of these attempts
 abbrev pub lowest_node : Attempt → List Attempt → ℕ
 lowest_node a [] = a.node
 lowest_node a (b ∷ running) = min a.node (lowest_node b running)
@@ -39,9 +40,11 @@ abbrev pub oldest_of : PlainCluster → List Attempt → Option Attempt
 oldest_of c [] = None
 oldest_of c (a ∷ running) = oldest_on c (lowest_node a running)
 
+-- the oldest attempt on the lowest node that runs one
 abbrev pub oldest : PlainCluster → Option Attempt
 oldest c = oldest_of c c.running
 
+-- the same task on the same node
 abbrev pub same_attempt : Attempt → Attempt → Bool
 same_attempt a b = (a.node == b.node) && is_task a.task b.task
 
@@ -49,6 +52,7 @@ same_attempt a b = (a.node == b.node) && is_task a.task b.task
 abbrev pub ended : Attempt → PlainCluster → PlainCluster
 ended a c = record c { running = filter (λ b. not (same_attempt a b)) c.running }
 
+-- an attempt that ran is done
 abbrev pub finish : Setup → Attempt → PlainCluster → Plan PlainCluster
 finish setup a c = attempt_done setup a (ended a c)
 
@@ -57,10 +61,12 @@ abbrev pub with_failure : Task → List Failed → List Failed
 with_failure task [] = record { task = task; count = 1 } ∷ []
 with_failure task (f ∷ failures) = if is_task task f.task then record { task = f.task; count = f.count + 1 } ∷ failures else f ∷ with_failure task failures
 
+-- how often a task has failed
 abbrev pub failures_of : Task → List Failed → ℕ
 failures_of task [] = 0
 failures_of task (f ∷ failures) = if is_task task f.task then f.count else failures_of task failures
 
+-- an attempt that ran has failed: it is counted, and the line says how often its task failed
 abbrev pub failed : Attempt → PlainCluster → PlainCluster
 failed a c = record (ended a c) { failures = with_failure a.task c.failures; journal = c.journal ++ line.Fail a.task a.node (failures_of a.task (with_failure a.task c.failures)) ∷ [] }
 
@@ -88,13 +94,16 @@ wiped n c = does (plan.Wipe n) (gives (noted (line.Wipe n ∷ []) (with_copies (
 
 -- ---- events
 
+-- an event that does not apply leaves its line alone
 abbrev pub skipped : EventWord → ℕ → PlainCluster → Plan PlainCluster
 skipped word n c = gives (noted (line.Skip word n ∷ []) c)
 
+-- `done`: the oldest attempt of the node is done, if there is one
 abbrev pub done_by : Setup → ℕ → PlainCluster → Option Attempt → Plan PlainCluster
 done_by setup n c None = skipped word.Done n c
 done_by setup n c (Some a) = finish setup a c
 
+-- `fail`: the oldest attempt of the node fails, if there is one
 abbrev pub failed_by : Setup → ℕ → PlainCluster → Option Attempt → Plan PlainCluster
 failed_by setup n c None = skipped word.Fail n c
 failed_by setup n c (Some a) = fail setup a c
@@ -142,5 +151,6 @@ act_on setup (Wipe n ∷ events) c = spend setup (Wipe n) events c
 act_on setup (Busy n ∷ events) c = spend setup (Busy n) events c
 act_on setup (Idle n ∷ events) c = spend setup (Idle n) events c
 
+-- the last step of a turn: the first event that is left acts, or, where none is, an attempt is done
 abbrev pub act : Setup → PlainCluster → Plan PlainCluster
 act setup c = act_on setup c.events c

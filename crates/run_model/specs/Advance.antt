@@ -32,9 +32,11 @@ next_round setup c =
     clear setup c.up (record c { round = c.round + 1; running = []; known = []; journal = c.journal ++ map (λ (a : Attempt). line.Dropped a.task a.node) c.running })
     >>= (λ next. gives (noted (line.Round next.round ∷ []) next))
 
+-- a part is tried on the up nodes that hold it, in order
 abbrev pub part_tries : PlainCluster → Name → List Try
 part_tries c name = map (try_at name) (up_holders name c.up c.copies)
 
+-- once a part was read, the others follow; where it has no copy left, the run goes on
 abbrev pub after_part : (PlainCluster → Plan Advanced) → PlainCluster → Option Try → Plan Advanced
 after_part more c None = gives (goes_on c)
 after_part more c (Some it) = more c
@@ -61,13 +63,16 @@ passed i (Wipe n ∷ events) = Wipe n ∷ events
 passed i (Busy n ∷ events) = Busy n ∷ events
 passed i (Idle n ∷ events) = Idle n ∷ events
 
+-- where the run goes on, the events that wait for a round until this one are spent
 abbrev pub pass : Advanced → Advanced
 pass (finished c end) = finished c end
 pass (goes_on c) = goes_on (record c { events = passed c.round c.events })
 
+-- a round that is decided ends the run or leads to the next one; else nothing changes
 abbrev pub advance_if : Setup → Option EndWord → PlainCluster → Bool → Plan Advanced
 advance_if setup decision c true = decide setup decision c
 advance_if setup decision c false = gives (goes_on c)
 
+-- the first step of a turn: what follows on the round, if it is decided
 abbrev pub advance : Setup → Option EndWord → PlainCluster → Plan Advanced
 advance setup decision c = advance_if setup decision c (is_decided setup c) >>= (λ advanced. gives (pass advanced))

@@ -52,6 +52,7 @@ output_kept shape now (Test i p) = []
 abbrev pub own_writes : Setup → Task → Reading → List Name
 own_writes setup task r = made_by task ++ rebuilt task r.unread ++ block_kept setup.shape task r.remote ++ output_kept setup.shape r.cluster.round task
 
+-- what an attempt writes on its own node
 abbrev pub own_calls : Setup → Attempt → Reading → List Call
 own_calls setup a r = map (Write a.node) (own_writes setup a.task r)
 
@@ -79,9 +80,11 @@ further_nodes setup (Map i j s q) node up copies = []
 further_nodes setup (Reduce i j p) node up copies = if (j == last setup.shape) && (i % setup.schedule.keep == 0) then nodes_for setup node up (up_holders (Out i j p) up copies) else []
 further_nodes setup (Test i p) node up copies = []
 
+-- the file of a name is written on each of these nodes
 abbrev pub writes_to : List ℕ → Name → List Call
 writes_to nodes name = map (λ n. Write n name) nodes
 
+-- what an attempt writes on further nodes, once its own node holds it
 abbrev pub further_calls : Setup → Attempt → Reading → List Call
 further_calls setup a r = flat_map (writes_to (further_nodes setup a.task a.node r.cluster.up (written (own_calls setup a r) r.cluster.copies))) (made_by a.task)
 
@@ -97,6 +100,7 @@ with_known (Map i j s q) known = known
 with_known (Reduce i j p) known = known
 with_known (Test i p) known = joined nat_cmp p known
 
+-- the line of an attempt that is done, with how many files it read
 abbrev pub commit_line : Attempt → Reading → Entry
 commit_line a r = Commit a.task a.node r.local r.remote r.caches
 

@@ -27,6 +27,7 @@ pub record Input : Type 0 where
   pub cache : Option Name
   pub files : List Name
 
+-- an input: the cache that may stand for its files, and the files
 abbrev pub input : Option Name → List Name → Input
 input cache files = record { cache = cache; files = files }
 
@@ -92,5 +93,6 @@ load c node = number_of (λ (a : Attempt). node == a.node) c.running
 abbrev pub idle_nodes : Setup → PlainCluster → List ℕ
 idle_nodes setup c = filter (λ n. not (among n (busy_nodes c.events c.marked)) && nat_lt (load c n) setup.schedule.slots) c.up
 
+-- what a cluster shows to the choice of tasks and nodes
 abbrev pub view_of : Setup → PlainCluster → View
 view_of setup c = record { shape = setup.shape; copies = c.copies; up = c.up; idle = idle_nodes setup c }

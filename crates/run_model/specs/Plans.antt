@@ -28,6 +28,7 @@ pub data Plan (A : Type 0) : Type 0 where
 
 -- one plan and then another, by what the first gives
 infixl 10 ◌>>=◌
+-- a plan, and then the one that follows on what it gives
 abbrev pub ◌>>=◌ : {A B : Type 0} → Plan A → (A → Plan B) → Plan B
 (gives a) >>= f = f a
 (refuses c why) >>= f = refuses c why
@@ -61,11 +62,13 @@ pub data Came (A : Type 0) : Type 0 where
   gave : A → Came A
   refused : PlainCluster → Refusal → Came A
 
+-- what was done of a plan: its calls, the marks that are left, and what it came to
 pub record Done (A : Type 0) : Type 0 where
   pub calls : List Call
   pub marks : List Bool
   pub came : Came A
 
+-- one call more, before the others
 abbrev pub and_call : {A : Type 0} → Call → Done A → Done A
 and_call call done = record { calls = call ∷ done.calls; marks = done.marks; came = done.came }
 

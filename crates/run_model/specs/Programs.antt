@@ -10,12 +10,15 @@ use Rattle.hal_base.specs.declared.shape.Shape.{Shape}
 use Rattle.schedule_text.specs.declared.schedule.Event.{Event}
 use Rattle.run_model.specs.State.{Setup}
 
+-- records with a number as key and one number as field
 abbrev pub pairs : Schema
 pairs = record { key = kind.Int; fields = kind.Int ∷ [] }
 
+-- a source of such records, with its caches
 abbrev pub source : Origin → Bool → Bool → Source
 source from reducer mapper = record { from = from; stream = pairs; reducer_input = reducer; mapper_input = mapper }
 
+-- a step of these sources that gives such records
 abbrev pub step : List Source → Step
 step sources = record { sources = sources; out = pairs }
 
@@ -33,6 +36,7 @@ shape parts rounds blocks steps output = record {
   reducer_output = output;
 }
 
+-- a shape on so many nodes with one slot each, with so many copies of blocks and these events
 abbrev pub setup : Shape → ℕ → ℕ → List Event → Setup
 setup shape nodes copies events = record {
   shape = shape;

@@ -18,6 +18,7 @@ pub record Try : Type 0 where
   pub node : ℕ
   pub name : Name
 
+-- the file of a name on a node is tried
 abbrev pub try_at : Name → ℕ → Try
 try_at name node = record { node = node; name = name }
 
@@ -26,6 +27,7 @@ pub record Tried : Type 0 where
   pub cluster : PlainCluster
   pub answered : Option Try
 
+-- the line tells of a miss
 abbrev pub is_struck : Entry → Bool
 is_struck (Struck name node) = true
 is_struck _ = false
@@ -76,6 +78,7 @@ own_tries copies own name = flat_map (own_try copies own) (name ∷ cache_of_blo
 abbrev pub other_tries : PlainCluster → ℕ → Name → List Try
 other_tries c own name = map (try_at name) (filter (λ node. not (node == own)) (up_holders name c.up c.copies))
 
+-- the files that are tried for a need, in order: those of the own node, and then those of other nodes
 abbrev pub tries_for : PlainCluster → ℕ → Name → List Try
 tries_for c own name = own_tries c.copies own name ++ other_tries c own name
 
@@ -95,6 +98,7 @@ pub data ReadSoFar : Type 0 where
   reading : Reading → ReadSoFar
   starved : PlainCluster → ReadSoFar
 
+-- the file is a cache
 abbrev pub is_cache : Name → Bool
 is_cache (Blk t b) = false
 is_cache (Spill i j s q) = false
@@ -113,6 +117,7 @@ counted own it c r = record {
   unread = r.unread;
 }
 
+-- once a need was tried: the file that answered is counted, or the attempt is starved
 abbrev pub after_tries : ℕ → Reading → PlainCluster → Option Try → ReadSoFar
 after_tries own r c None = starved c
 after_tries own r c (Some it) = reading (counted own it c r)
@@ -127,6 +132,7 @@ read_files own [] so_far = gives so_far
 read_files own (name ∷ names) (starved c) = gives (starved c)
 read_files own (name ∷ names) (reading r) = read_need own name r >>= read_files own names
 
+-- a cache that could not be read is noted
 abbrev pub with_unread : Name → PlainCluster → Reading → Reading
 with_unread cache c r = record r { cluster = c; unread = r.unread ++ cache ∷ [] }
 
@@ -146,5 +152,6 @@ read_inputs own [] so_far = gives so_far
 read_inputs own (it ∷ inputs) (starved c) = gives (starved c)
 read_inputs own (it ∷ inputs) (reading r) = read_input own it.cache it.files r >>= read_inputs own inputs
 
+-- an attempt that has read nothing yet
 abbrev pub nothing_read : PlainCluster → Reading
 nothing_read c = record { cluster = c; local = 0; remote = 0; caches = 0; unread = [] }

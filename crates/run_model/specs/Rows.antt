@@ -18,6 +18,7 @@ use Rattle.run_model.specs.Programs.{setup, one_job, hops, stamps, kept_every}
 abbrev pub came : Setup → List (Option EndWord) → List Bool → List Entry × List Call
 came s decisions marks = (journal_of (under (run 200 s (listed_decisions decisions)) marks), (under (run 200 s (listed_decisions decisions)) marks).calls)
 
+-- runs worked by hand: their journals, their calls, and how they end
 pub record WorkedRows : Type 0 where
   pub one_job_runs : came (setup one_job 1 1 []) (Some Limit ∷ []) ([]) ≡ ((line.Round 1 ∷ line.Start (Map 1 1 1 0) 0 ∷ line.Commit (Map 1 1 1 0) 0 1 0 0 ∷ line.Start (Reduce 1 1 0) 0 ∷ line.Commit (Reduce 1 1 0) 0 1 0 0 ∷ line.End Limit 1 ∷ []), (Wipe 0 ∷ Write 0 (Blk 0 0) ∷ Read 0 (Blk 0 0) ∷ Write 0 (Spill 1 1 1 0) ∷ Read 0 (Spill 1 1 1 0) ∷ Write 0 (Out 1 1 0) ∷ Read 0 (Out 1 1 0) ∷ []))
   pub one_job_with_skips : came (setup one_job 1 1 (Busy 0 ∷ Busy 0 ∷ Back 0 ∷ Done 0 ∷ Done 0 ∷ [])) (Some Limit ∷ []) ([]) ≡ ((line.Round 1 ∷ line.Start (Map 1 1 1 0) 0 ∷ line.Busy 0 ∷ line.Skip word.Busy 0 ∷ line.Skip word.Back 0 ∷ line.Commit (Map 1 1 1 0) 0 1 0 0 ∷ line.Skip word.Done 0 ∷ line.Start (Reduce 1 1 0) 0 ∷ line.Commit (Reduce 1 1 0) 0 1 0 0 ∷ line.End Limit 1 ∷ []), (Wipe 0 ∷ Write 0 (Blk 0 0) ∷ Read 0 (Blk 0 0) ∷ Write 0 (Spill 1 1 1 0) ∷ Read 0 (Spill 1 1 1 0) ∷ Write 0 (Out 1 1 0) ∷ Read 0 (Out 1 1 0) ∷ []))

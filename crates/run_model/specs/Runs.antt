@@ -42,6 +42,7 @@ load setup = do_all (map Wipe (below setup.schedule.nodes) ++ block_writes setup
 
 -- ---- turns
 
+-- more turns, unless the run has ended
 abbrev pub unless_ended : (PlainCluster → Plan Turned) → Turned → Plan Turned
 unless_ended more (acted c) = more c
 unless_ended more (ends c end) = gives (ends c end)
@@ -51,6 +52,7 @@ abbrev pub turns : ℕ → Setup → (ℕ → Option EndWord) → PlainCluster �
 turns zero setup decisions c = gives (acted c)
 turns (suc n) setup decisions c = turn setup (decisions c.round) c >>= unless_ended (turns n setup decisions)
 
+-- the decision in a list of them, where it has one
 abbrev pub decision_in : Option (Option EndWord) → Option EndWord
 decision_in None = None
 decision_in (Some end) = end
@@ -70,6 +72,7 @@ abbrev pub state_of : Turned → PlainCluster
 state_of (acted c) = c
 state_of (ends c end) = c
 
+-- the cluster at the end of what was done
 abbrev pub came_to : Came Turned → PlainCluster
 came_to (gave turned) = state_of turned
 came_to (refused c why) = c

@@ -22,6 +22,7 @@ kept_block Prev keeps q = []
 kept_block (Table t only) false q = []
 kept_block (Table t only) true q = Mic t q ∷ []
 
+-- the cache of the split of a source, if its source has one
 abbrev pub kept_split : Option Source → ℕ → List Name
 kept_split None q = []
 kept_split (Some source) q = kept_block source.from source.mapper_input q

@@ -10,9 +10,11 @@ use Rattle.run_model.specs.State.{PlainCluster, Setup}
 use Rattle.run_model.specs.Tasks.{is_task}
 use Rattle.run_model.specs.Wanted.{Goal, ready, wanted}
 
+-- what a round has yet to come to: its number, and the tests that are known
 abbrev pub goal_of : PlainCluster → Goal
 goal_of c = record { round = c.round; known = c.known }
 
+-- an attempt at the task runs
 abbrev pub is_running : PlainCluster → Task → Bool
 is_running c task = list_any (λ (a : Attempt). is_task task a.task) c.running
 
@@ -20,10 +22,12 @@ is_running c task = list_any (λ (a : Attempt). is_task task a.task) c.running
 abbrev pub first_ready : Setup → PlainCluster → Option Task
 first_ready setup c = find (λ task. not (is_running c task) && ready (view_of setup c) task) (wanted (view_of setup c) (goal_of c))
 
+-- an attempt at the task starts on the node, if there is one
 abbrev pub started : Task → Option ℕ → PlainCluster → PlainCluster
 started task None c = c
 started task (Some node) c = record c { running = c.running ++ record { task = task; node = node } ∷ []; journal = c.journal ++ line.Start task node ∷ [] }
 
+-- the first task that can start does so, if there is one
 abbrev pub start_first : Setup → PlainCluster → Option Task → PlainCluster
 start_first setup c None = c
 start_first setup c (Some task) = started task (site (view_of setup c) task) c

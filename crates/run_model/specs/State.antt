@@ -14,6 +14,7 @@ use Rattle.run_model.specs.declared.attempt.Failed.{Failed}
 abbrev pub Copy : Type 0
 Copy = CopyWith (Unit {0})
 
+-- a copy of a name on a node, of which no more is known
 abbrev pub copy : Name → ℕ → Copy
 copy name node = copy_at name node tt
 
@@ -47,8 +48,10 @@ holds copies node name = list_any (is_at name node) copies
 
 -- ---- the state, with one thing changed
 
+-- these lines come to the journal
 abbrev pub noted : List Entry → PlainCluster → PlainCluster
 noted lines c = record c { journal = c.journal ++ lines }
 
+-- the cluster with these copies in place of its own
 abbrev pub with_copies : List Copy → PlainCluster → PlainCluster
 with_copies copies c = record c { copies = copies }

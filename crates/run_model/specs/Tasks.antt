@@ -62,6 +62,7 @@ split_of shape i j State q = if i == 1 then Blk shape.start q else Out (i - 1) (
 split_of shape i j Prev q = Out i (j - 1) q
 split_of shape i j (Table t only) q = Blk t q
 
+-- the file that a split of a source is read from, if there is such a source
 abbrev pub split_in : Shape → ℕ → ℕ → Option Source → ℕ → List Name
 split_in shape i j None q = []
 split_in shape i j (Some source) q = split_of shape i j source.from q ∷ []
@@ -76,6 +77,7 @@ split shape i j s q = split_in shape i j (source_at shape j s) q
 abbrev pub maps : Shape → ℕ → ℕ → List Task
 maps shape i j = flat_map (λ s. map (Map i j s) (splits shape i j s)) (source_numbers shape j)
 
+-- the reduces of a step, one for each part
 abbrev pub reduces : Shape → ℕ → ℕ → List Task
 reduces shape i j = map (Reduce i j) (below shape.parts)
 

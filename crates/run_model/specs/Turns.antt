@@ -12,6 +12,7 @@ pub data Turned : Type 0 where
   acted : PlainCluster → Turned
   ends : PlainCluster → EndWord → Turned
 
+-- behind advance: the run is finished, or tasks start and then an event acts
 abbrev pub go_on : Setup → Advanced → Plan Turned
 go_on setup (finished c end) = gives (ends c end)
 go_on setup (goes_on c) = act setup (start setup c) >>= (λ next. gives (acted next))

@@ -26,9 +26,11 @@ missing_parts view i = map (Reduce i (last view.shape)) (filter (λ p. not (is_u
 abbrev pub unknown_tests : View → Goal → List Task
 unknown_tests view goal = if nat_le 2 goal.round then map (Test goal.round) (filter (λ p. not (among p goal.known)) (below (test_count view.shape))) else []
 
+-- the tasks that a round wants for itself: those of missing parts, and those of unknown tests
 abbrev pub goals : View → Goal → List Task
 goals view goal = missing_parts view goal.round ++ unknown_tests view goal
 
+-- a task, if there is one, as a list
 abbrev pub listed : Option Task → List Task
 listed None = []
 listed (Some task) = task ∷ []
@@ -74,10 +76,12 @@ wanted view goal = (walk view (tasks_until view.shape goal.round) (goals view go
 
 -- ---- ready tasks
 
+-- there is nothing in it
 abbrev pub is_empty : {A : Type 0} → List A → Bool
 is_empty [] = true
 is_empty (x ∷ xs) = false
 
+-- the task has a node to run on, and can read there what it needs
 abbrev pub ready_at : View → Task → Option ℕ → Bool
 ready_at view task None = false
 ready_at view task (Some node) = is_empty (missing view node task)
@@ -106,6 +110,7 @@ abbrev pub lesser_block : Name → Name → Name
 lesser_block (Blk t b) (Blk t' b') = if nat_lt t t' || ((t == t') && nat_le b b') then Blk t b else Blk t' b'
 lesser_block a b = a
 
+-- the lesser of a name and another one, if there is one
 abbrev pub lesser : Name → Option Name → Name
 lesser a None = a
 lesser a (Some b) = lesser_block a b
@@ -115,5 +120,6 @@ abbrev pub least_name : List Name → Option Name
 least_name [] = None
 least_name (a ∷ names) = Some (lesser a (least_name names))
 
+-- the least name among the wanted blocks that no up node holds
 abbrev pub first_missing_block : View → Goal → Option Name
 first_missing_block view goal = least_name (missing_blocks view goal)

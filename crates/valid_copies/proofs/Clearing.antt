@@ -19,7 +19,7 @@ use Rattle.run_model.specs.State.{PlainCluster, Setup, bare, with_copies}
 use Rattle.run_model.specs.State.{Copy as Bare}
 use Rattle.run_model.specs.Stays.{stays}
 use Rattle.name_values.specs.Values.{World}
-use Rattle.valid_copies.proofs.Copies.{all_kept}
+use Rattle.valid_copies.proofs.Copies.{all_kept, and_true}
 use Rattle.valid_copies.proofs.Following.{leads_more}
 use Rattle.valid_copies.proofs.Others.{on_told}
 use Rattle.valid_copies.proofs.PlanWrites.{do_both}
@@ -64,16 +64,12 @@ files_go shape keep round nodes copies files listed =
     (subst (AllByRecursion (λ (it : Bare). is_meant (goes shape keep round) nodes it.name it.node ≡ true)) (sym listed)
     (all_ordered (λ (it : Bare). is_meant (goes shape keep round) nodes it.name it.node ≡ true) (left_over shape keep round nodes copies) (all_pass (λ (it : Bare). is_meant (goes shape keep round) nodes it.name it.node) (bare copies))))
 
-both_true : (a b : Bool) → (a && b) ≡ true → (a ≡ true) × (b ≡ true)
-both_true true b e = (refl, e)
-both_true false b e = cc
-
 -- what is not meant is none of the files that are
 none_listed : (test : Name → Bool) (nodes : List ℕ) (files : List FileOn) → AllByRecursion (λ (it : FileOn). is_meant test nodes it.name it.node ≡ true) files → (n : ℕ) (b : Name) → is_meant test nodes b n ≡ false → list_any (is_on n b) files ≡ false
 none_listed test nodes [] a n b e = refl
 none_listed test nodes (it ∷ files) a n b e = elim (is_on n b it) as (λ t. is_on n b it ≡ t → (t || list_any (is_on n b) files) ≡ false) [
   | true ↦ λ t.
-      let both = both_true (is_name b it.name) (n == it.node) t in
+      let both = and_true (is_name b it.name) (n == it.node) t in
       let name : b ≡ it.name = same_by b it.name both.0 in
       let node : n ≡ it.node = eqb-true n it.node both.1 in
       absurd (false≢true (sym e ∙ ap (λ k. is_meant test nodes k n) name ∙ ap (is_meant test nodes it.name) node ∙ a.0))

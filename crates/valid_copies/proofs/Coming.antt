@@ -2,7 +2,7 @@
 use Rattle.std.proofs.Common.{◌≡◌, ◌⊎◌, inl, inr, ℕ, List, [], ◌∷◌, ◌++◌, Option, None, Some, IsSome, refl, sym, ap, subst, ◌∙◌, map, append_assoc, append-nil}
 use Rattle.std.specs.Option.{option_map}
 use Rattle.std.proofs.lemmas.List.{map-append}
-use Rattle.std.specs.List.{AllByRecursion}
+use Rattle.plain_job.proofs.Lists.{all_both}
 use Rattle.node_names.specs.declared.name.Name.{Name}
 use Rattle.hal_outside.specs.DiskCalls as disk
 use Rattle.hal_outside.specs.DiskTold.{DiskTold, Done, NotDone, NotRead}
@@ -158,10 +158,6 @@ are_both desk [] more [] others a b = b
 are_both desk [] more (it ∷ reads) others a b = absurd a
 are_both desk (name ∷ names) more [] others a b = absurd a
 are_both desk (name ∷ names) more (it ∷ reads) others a b = (a.0, are_both desk names more reads others a.1 b)
-
-pub all_both : {A : Type 0} (P : A → Type 0) (xs ys : List A) → AllByRecursion P xs → AllByRecursion P ys → AllByRecursion P (xs ++ ys)
-all_both P [] ys a b = b
-all_both P (x ∷ xs) ys a b = (a.0, all_both P xs ys a.1 b)
 
 -- what stays over calls: copies that were put, and that damage shows
 pub record Carried (copies : List Copy) (shows shows' : Type 0) (before after : Option DiskTold) : Type 0 where

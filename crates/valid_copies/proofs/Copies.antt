@@ -1,11 +1,10 @@
 -- What holds of each copy, when copies are added and taken away.
-use Rattle.std.proofs.Common.{◌≡◌, ℕ, Bool, true, false, cond, nat_eq, nat_lt, ◌&&◌, List, [], ◌∷◌, Some, refl, sym, subst, arith}
+use Rattle.std.proofs.Common.{◌≡◌, ℕ, Bool, true, false, cond, nat_eq, nat_lt, ◌&&◌, List, [], ◌∷◌, Some, refl, sym, subst}
 use Rattle.std.specs.List.{AllByRecursion, filter}
 use Rattle.std.proofs.lemmas.Bool.{eqb-true}
-use Rattle.std.proofs.lemmas.Bool.Decides.{nat_tests}
 use Rattle.node_names.specs.declared.digest.Digest.{Digest}
 use Rattle.node_names.specs.declared.name.Name.{Name}
-use Rattle.node_names.specs.declared.name.Name.TheVariants.{Blk, Spill, Out, Ric, Mic, Roc}
+use Rattle.replica_table.proofs.Names.{same_by}
 use Rattle.replica_table.specs.Copies.{Copy, among_its_own, held, is_at, is_name, with_copy}
 
 -- what holds of those that are kept
@@ -30,17 +29,7 @@ all_with_copy P new (copy ∷ copies) p a = elim (is_name new.name copy.name) as
   | false ↦ (a.0, all_with_copy P new copies p a.1)
 ]
 
--- names that are told as the same are the same
-same_by : (a b : Name) → is_name a b ≡ true → a ≡ b
-same_by (Blk _ _) (Blk _ _) e = grind (arith, nat_tests)
-same_by (Spill _ _ _ _) (Spill _ _ _ _) e = grind (arith, nat_tests)
-same_by (Out _ _ _) (Out _ _ _) e = grind (arith, nat_tests)
-same_by (Ric _ _ _) (Ric _ _ _) e = grind (arith, nat_tests)
-same_by (Mic _ _) (Mic _ _) e = grind (arith, nat_tests)
-same_by (Roc _ _) (Roc _ _) e = grind (arith, nat_tests)
-same_by a b e = cc
-
-and_true : (a b : Bool) → (a && b) ≡ true → (a ≡ true) × (b ≡ true)
+pub and_true : (a b : Bool) → (a && b) ≡ true → (a ≡ true) × (b ≡ true)
 and_true true b e = (refl, e)
 and_true false b e = cc
 

@@ -6,7 +6,8 @@ use Rattle.hal_outside.specs.DiskTold.{DiskTold}
 use Rattle.run_model.specs.Plans.{Leaves, Plan, gives, ◌>>=◌}
 use Rattle.run_model.proofs.PlanSteps.{leaves_more, leaves_then}
 use Rattle.valid_copies.specs.Calls.{Added, AreAnswered, Begun, Follows, Leads, MissedIn, made_of}
-use Rattle.valid_copies.proofs.Coming.{added_more, all_both, nothing_added}
+use Rattle.plain_job.proofs.Lists.{all_both}
+use Rattle.valid_copies.proofs.Coming.{added_more, nothing_added}
 
 -- the calls of one part of a plan, and then those of what it left
 pub leads_more : {A : Type 0} (plan middle rest : Plan A) (calls more : List disk.Call) → Leads plan calls middle → Leads middle more rest → Leads plan (calls ++ more) rest

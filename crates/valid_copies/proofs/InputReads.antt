@@ -12,12 +12,13 @@ use Rattle.run_model.specs.Reading.{Reading, nothing_read, read_files, read_inpu
 use Rattle.run_model.specs.State.{PlainCluster}
 use Rattle.name_values.specs.Values.{World}
 use Rattle.replica_table.specs.Copies.{Copy}
-use Rattle.valid_copies.proofs.Coming.{all_both, still_told}
+use Rattle.plain_job.proofs.Lists.{all_both}
+use Rattle.valid_copies.proofs.Coming.{added_more, nothing_added, still_told}
 use Rattle.valid_copies.proofs.Following.{begun_first, begun_more, follows_bind, follows_more, follows_none, missed_first, missed_more}
 use Rattle.valid_copies.proofs.InputPlans.{cluster_kept, counted_more, files_begun, files_follow, files_missed, files_starved, sees_still}
-use Rattle.valid_copies.specs.Calls.{Begun, Follows, MissedIn}
+use Rattle.valid_copies.specs.Calls.{Added, Begun, Follows, MissedIn}
 use Rattle.valid_copies.specs.Files.{AllRead, Any, Desk, FileRead, ReadsText, Sees, StarvedAt, StoppedBy, call_of}
-use Rattle.valid_copies.specs.Inputs.{EachRead, InputsRead, InputsStopped, OfPlan, counted_files, files_of, input_plan, rows_in}
+use Rattle.valid_copies.specs.Inputs.{EachRead, InputsRead, InputsStopped, OfPlan, calls_of, counted_files, files_of, input_plan, rows_in}
 use Rattle.valid_copies.specs.Stands.{Stands}
 use Rattle.valid_copies.specs.declared.fault.WorkFault.{WorkFault}
 use Rattle.valid_copies.specs.declared.fault.WorkFault.TheVariants.{Device, Memory}
@@ -36,6 +37,10 @@ files_more : (reads : List (List FileRead)) (more : List FileRead) → files_of 
 files_more [] more = append-nil (map file_in more)
 files_more (it ∷ reads) more = ap (λ fs. map file_in it ++ fs) (files_more reads more) ∙ sym (append_assoc (map file_in it) (files_of reads) (map file_in more))
 
+calls_more : (reads : List (List FileRead)) (more : List FileRead) → calls_of (reads ++ more ∷ []) ≡ calls_of reads ++ map call_of more
+calls_more [] more = append-nil (map call_of more)
+calls_more (it ∷ reads) more = ap (λ calls. map call_of it ++ calls) (calls_more reads more) ∙ sym (append_assoc (map call_of it) (calls_of reads) (map call_of more))
+
 -- the inputs before the rest were read, and nothing else was done
 pub record InputsSoFar (desk : Desk) (shows shows' sound sound' : Type 0) (before now : Option DiskTold) (inputs rest : List (List Name)) (old files : List FileRef) (lists : List (List (List Record))) : Type 0 where
   pub done : List (List Name)
@@ -44,6 +49,7 @@ pub record InputsSoFar (desk : Desk) (shows shows' sound sound' : Type 0) (befor
   pub each : EachRead desk done reads
   pub files_are : files ≡ old ++ files_of reads
   pub lists_are : lists ≡ rows_in reads
+  pub added : Added before (calls_of reads) now
   pub texts : shows → IsSome before → (w : World) → Stands w desk.table.copies before → AllByRecursion (AllByRecursion (ReadsText w)) reads
   pub follows : OfPlan (λ c plan. Follows plan before now (input_plan desk.own rest (counted_files desk.own (files_of reads) (nothing_read c)))) desk inputs
   pub tells : IsSome before → IsSome now
@@ -59,6 +65,7 @@ inputs_none desk shows sound told inputs files = record {
   each = tt;
   files_are = sym (append-nil files);
   lists_are = refl;
+  added = nothing_added told;
   texts = λ s t w valid. tt;
   follows = λ c sees. follows_none (input_plan desk.own inputs (nothing_read c)) told;
   tells = λ s. s;
@@ -90,6 +97,7 @@ module _ (desk : Desk) (shows shows' sound sound' : Type 0) (before now : Option
     each = each_more desk so_far.done names so_far.reads a.reads so_far.each (a.came.each, tt);
     files_are = a.files ∙ ap (λ fs. fs ++ map file_in a.reads) so_far.files_are ∙ append_assoc old (files_of so_far.reads) (map file_in a.reads) ∙ ap (λ fs. old ++ fs) (sym (files_more so_far.reads a.reads));
     lists_are = ls ∙ ap (λ xs. xs ++ rows ∷ []) so_far.lists_are ∙ ap (λ row. rows_in so_far.reads ++ row ∷ []) a.rows ∙ sym (map-append (map (λ (it : FileRead). it.rows)) so_far.reads (a.reads ∷ []));
+    added = subst (λ calls. Added before calls after) (sym (calls_more so_far.reads a.reads)) (added_more before now after (calls_of so_far.reads) (map call_of a.reads) so_far.added a.came.added);
     texts = λ s t w valid. all_both (AllByRecursion (ReadsText w)) so_far.reads (a.reads ∷ []) (so_far.texts s t w valid) (a.came.texts (so_far.shown s) (so_far.tells t) w (so_far.stands w desk.table.copies valid), tt);
     follows = λ c sees.
         let step = follows_bind (read_files desk.own names (reading (at c))) (gives (reading (counted_files desk.own (map file_in a.reads) (at c)))) (read_inputs desk.own (map (input None) others)) now after (files_follow desk now after names (at c) (seen c sees) shows' a.reads a.came) in
@@ -109,6 +117,7 @@ module _ (desk : Desk) (shows shows' sound sound' : Type 0) (before now : Option
     each = subst (λ is. EachRead desk is so_far.reads) (sym (so_far.split ∙ ap (λ is. so_far.done ++ is) e ∙ append-nil so_far.done)) so_far.each;
     files = so_far.files_are;
     rows = so_far.lists_are;
+    added = so_far.added;
     texts = so_far.texts;
     follows = λ c sees. subst (λ is. Follows (input_plan desk.own inputs (nothing_read c)) before now (input_plan desk.own is (at c))) e (so_far.follows c sees);
   }

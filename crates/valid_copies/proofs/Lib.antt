@@ -1,7 +1,10 @@
+pub mod Adding
 pub mod CacheTexts
 pub mod Clearing
 pub mod Coming
 pub mod Copies
+pub mod CopyReads
+pub mod Digests
 pub mod FirstFiles
 pub mod Following
 pub mod FurtherNodes
@@ -16,3 +19,4 @@ pub mod Steady
 pub mod Steps
 pub mod Telling
 pub mod Written
+pub mod WrittenCalls

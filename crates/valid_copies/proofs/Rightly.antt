@@ -1,5 +1,5 @@
 -- Calls that are right, one after another.
-use Rattle.std.proofs.Common.{◌≡◌, inl, inr, ◌<◌, ◌≤◌, ℕ, List, [], ◌∷◌, ◌++◌, Option, None, Some, IfSome, IsSome, Result, Ok, Err, IfOk, OnErr, OnOk, map, refl, sym, ap, ◌∙◌, subst, arith, append_assoc, append-nil}
+use Rattle.std.proofs.Common.{◌≡◌, inl, inr, ◌<◌, ◌≤◌, ℕ, List, [], ◌∷◌, ◌++◌, Option, None, Some, IfSome, IsSome, Result, Ok, Err, IfOk, OnErr, OnOk, map, refl, sym, ap, ◌∙◌, subst, arith, append-nil}
 use Rattle.std.specs.List.{AllByRecursion}
 use Rattle.std.specs.Option.{option_map}
 use Rattle.std.proofs.lemmas.Bool.{cases_lt}
@@ -20,7 +20,9 @@ use Rattle.node_files.specs.declared.files.Fetched.TheVariants.{Bytes, Missed}
 use Rattle.replica_table.specs.Copies.{Copy, Replicas, held}
 use Rattle.replica_table.specs.declared.file_on.FileOn.{FileOn}
 use Rattle.sha2.specs.Sha256.{sha256}
-use Rattle.valid_copies.proofs.Coming.{all_both, asked, done_added, not_done_added}
+use Rattle.plain_job.proofs.Lists.{all_both}
+use Rattle.valid_copies.proofs.Adding.{such_added, such_more, such_none}
+use Rattle.valid_copies.proofs.Coming.{asked, done_added, not_done_added}
 use Rattle.valid_copies.proofs.Copies.{held_has}
 use Rattle.valid_copies.proofs.Others.{on_told, tells_on}
 use Rattle.valid_copies.proofs.Steps.{text_is}
@@ -32,38 +34,11 @@ use Rattle.valid_copies.specs.Stands.{Stands}
 use Rattle.valid_copies.specs.Texts.{text_of}
 use Rattle.valid_copies.specs.Writes.{Wrote, write_of, writes_at}
 
--- ---- calls one after another
-
-pub right_none : (w : World) (told : Option DiskTold) → OnTold (RightCalls w) told told
-right_none w None = refl
-right_none w (Some t) = record { calls = []; added = sym (append-nil t.calls); right = tt }
-
-pub right_more : (w : World) (before between after : Option DiskTold) → OnTold (RightCalls w) before between → OnTold (RightCalls w) between after → OnTold (RightCalls w) before after
-right_more w None None after a b = b
-right_more w None (Some m) after a b = cc
-right_more w (Some t) None after a b = absurd a
-right_more w (Some t) (Some m) None a b = absurd b
-right_more w (Some t) (Some m) (Some u) a b = record {
-  calls = a.calls ++ b.calls;
-  added = b.added ∙ ap (λ cs. cs ++ b.calls) a.added ∙ append_assoc t.calls a.calls b.calls;
-  right = all_both (IsRightCall w) a.calls b.calls a.right b.right;
-}
-
--- where it is known which calls were added
-pub right_added : (w : World) (before after : Option DiskTold) (calls : List disk.Call) → Added before calls after → AllByRecursion (IsRightCall w) calls → OnTold (RightCalls w) before after
-right_added w None None calls a r = refl
-right_added w None (Some u) calls a r = cc
-right_added w (Some t) None calls a r = cc
-right_added w (Some t) (Some u) calls a r = record { calls = calls; added = same a; right = r }
-  where
-    same : Some u.calls ≡ Some (t.calls ++ calls) → u.calls ≡ t.calls ++ calls
-    same e = cc
-
 -- ---- work on disks
 
 pub works_none : {D : Type 0} (g : Disks D) (w : World) (disks : D) (p : Type 0) → p → RightWork g w disks disks p
 works_none g w disks p is = record {
-  right = right_none w (g.told disks);
+  right = such_none (IsRightCall w) (g.told disks);
   sound = λ s. s;
   unmissed = λ s t. refl;
   also = λ s t. is;
@@ -73,7 +48,7 @@ pub works_more : {D : Type 0} (g : Disks D) (w : World) (old between new : D) (p
 works_more g w old between new p q a b =
     let tells : IsSome (g.told old) → IsSome (g.told between) = tells_on (RightCalls w) (g.told old) (g.told between) a.right in
     record {
-      right = right_more w (g.told old) (g.told between) (g.told new) a.right b.right;
+      right = such_more (IsRightCall w) (g.told old) (g.told between) (g.told new) a.right b.right;
       sound = λ s. b.sound (a.sound s);
       unmissed = λ s t. b.unmissed (a.sound s) (tells t) ∙ a.unmissed s t;
       also = λ s t. b.also (a.sound s) (tells t);
@@ -86,7 +61,7 @@ works_so g w old new p q f a = record { right = a.right; sound = a.sound; unmiss
 pub works_added : {D : Type 0} (g : Disks D) (w : World) (old new : D) (calls : List disk.Call) (p : Type 0) → p → Added (g.told old) calls (g.told new) → AllByRecursion (IsRightCall w) calls
     → (g.sound old → g.sound new) → (IsSome (g.told old) → g.misses new ≡ g.misses old) → RightWork g w old new p
 works_added g w old new calls p is a r sound misses = record {
-  right = right_added w (g.told old) (g.told new) calls a r;
+  right = such_added (IsRightCall w) (g.told old) (g.told new) calls a r;
   sound = sound;
   unmissed = λ s t. misses t;
   also = λ s t. is;
@@ -147,7 +122,7 @@ module _ (w : World) (copies : List Copy) (file : FileRef) (kept : held file.nam
   asks_right told answer stands = text_with (text_of w file.name) file.digest.0 (held_has (λ name node (digest : Digest). option_map sha256 (text_of w name) ≡ Some digest.0) copies file.name file.node file.digest stands.valid kept)
 
   one_read : (told : Option DiskTold) (t u : DiskTold) (answer : disk.Answer) → Stands w copies told → u.calls ≡ t.calls ++ asked file answer ∷ [] → RightCalls w t u
-  one_read told t u answer stands e = record { calls = asked file answer ∷ []; added = e; right = (asks_right told answer stands, tt) }
+  one_read told t u answer stands e = record { calls = asked file answer ∷ []; added = e; each = (asks_right told answer stands, tt) }
 
   right_fetched : (told : Option DiskTold) (found : Fetched) (t u : DiskTold) → Stands w copies told → IsFetched file found t u → RightCalls w t u
   right_fetched told (Bytes b) t u stands r = one_read told t u (disk.Same b.items) stands r.calls
@@ -155,7 +130,7 @@ module _ (w : World) (copies : List Copy) (file : FileRef) (kept : held file.nam
 
   right_unread : (told : Option DiskTold) (p : Type 0) (t u : DiskTold) → Stands w copies told → NotRead file.node file.name file.digest.0 p t u → RightCalls w t u
   right_unread told p t u stands r = elim r.calls [
-    | inl e ↦ record { calls = []; added = e ∙ sym (append-nil t.calls); right = tt }
+    | inl e ↦ record { calls = []; added = e ∙ sym (append-nil t.calls); each = tt }
     | inr e ↦ one_read told t u e.0 stands e.2
   ]
 

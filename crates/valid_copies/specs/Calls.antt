@@ -62,6 +62,16 @@ pub record MissedIn {A : Type 0} (plan : Plan A) (before after : Option DiskTold
   pub added : Added before (done ++ last ∷ []) after
   pub leads : Leads plan (done ++ last ∷ []) rest
 
+-- calls were added, each of them such
+pub record AddedSuch (Such : disk.Call → Type 0) (old new : DiskTold) : Type 0 where
+  pub calls : List disk.Call
+  pub added : new.calls ≡ old.calls ++ calls
+  pub each : AllByRecursion Such calls
+
+-- where the disks tell, each call that was added is such
+abbrev pub CallsHave : (disk.Call → Type 0) → Option DiskTold → Option DiskTold → Type 0
+CallsHave Such before after = OnTold (AddedSuch Such) before after
+
 -- of no file it changed what was put
 abbrev pub PutStays : Option DiskTold → Option DiskTold → Type 0
 PutStays before after = OnTold (λ old new. new.put ≡ old.put) before after

@@ -41,6 +41,7 @@ pub record FileRead : Type 0 where
 abbrev pub call_of : FileRead → disk.Call
 call_of it = disk.Read it.file.node it.file.name it.file.digest.0 (disk.Same it.bytes)
 
+-- a file, as a plan tries it
 abbrev pub try_of : FileRef → Try
 try_of file = try_at file.name file.node
 
@@ -107,6 +108,7 @@ pub record Stopped (desk : Desk) (L : List disk.Call → Type 0) (before : Optio
   pub has : L last
   pub added : Added before (map call_of reads ++ last) after
 
+-- no matter which calls
 abbrev pub Any : List disk.Call → Type 0
 Any calls = Unit {0}
 

@@ -2,6 +2,7 @@ pub mod Calls
 pub mod Faults
 pub mod Files
 pub mod Inputs
+pub mod LastWrites
 pub mod ReadCounts
 pub mod Readings
 pub mod Removing

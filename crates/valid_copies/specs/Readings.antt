@@ -30,6 +30,7 @@ IsTextIn kind.Ric schema bytes part rows = IsCache schema bytes rows
 IsTextIn kind.Mic schema bytes part rows = IsBlock schema bytes rows
 IsTextIn kind.Roc schema bytes part rows = IsCache schema bytes rows
 
+-- P of the schema, which there is
 abbrev pub OfSchema : (Schema → Type 0) → Option Schema → Type 0
 OfSchema P None = ⊥
 OfSchema P (Some schema) = P schema
@@ -66,6 +67,7 @@ IsTextOfRows kind.Ric schema bytes rows = IsCache schema bytes rows
 IsTextOfRows kind.Mic schema bytes rows = IsBlock schema bytes rows
 IsTextOfRows kind.Roc schema bytes rows = IsCache schema bytes rows
 
+-- the bytes are the text of what a file of this sort holds
 abbrev pub IsTextOfHeld : NameKind → List ℕ → Held → Schema → Type 0
 IsTextOfHeld kind bytes (Rows rows) schema = IsTextOfRows kind schema bytes rows
 IsTextOfHeld kind bytes (Parts parts) schema = IsSpill schema bytes parts

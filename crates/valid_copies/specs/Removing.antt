@@ -45,6 +45,7 @@ OthersKept files old new = (node : ℕ) (name : Name) → list_any (is_on node n
 
 -- ---- what does not stay
 
+-- files, as the copies of a plan
 abbrev pub as_copies : List FileOn → List Bare
 as_copies files = map (λ (it : FileOn). copy it.name it.node) files
 

@@ -1,12 +1,12 @@
 -- Calls that write texts and ask for their digests, and reads that do not miss.
-use Rattle.std.specs.Prelude.{◌≡◌, ℕ, List, ◌++◌, Some, IsSome}
-use Rattle.std.specs.List.{AllByRecursion}
+use Rattle.std.specs.Prelude.{◌≡◌, ℕ, List, Some, IsSome}
 use Rattle.hal_outside.specs.declared.disks.Disks.{Ghosts as Disks}
 use Rattle.hal_outside.specs.DiskCalls as disk
 use Rattle.hal_outside.specs.DiskTold.{DiskTold}
 use Rattle.hal_outside.specs.Told.{OnTold}
 use Rattle.name_values.specs.Values.{World}
 use Rattle.sha2.specs.Sha256.{sha256}
+use Rattle.valid_copies.specs.Calls.{AddedSuch}
 use Rattle.valid_copies.specs.Texts.{text_of}
 
 -- what a call writes, if it writes, is the text of the file's name, and a read asks for the digest of that text
@@ -17,10 +17,8 @@ IsRightCall w (disk.Remove node name) = Unit {0}
 IsRightCall w (disk.Wipe node) = Unit {0}
 
 -- each call that was added is right
-pub record RightCalls (w : World) (old new : DiskTold) : Type 0 where
-  pub calls : List disk.Call
-  pub added : new.calls ≡ old.calls ++ calls
-  pub right : AllByRecursion (IsRightCall w) calls
+abbrev pub RightCalls : World → DiskTold → DiskTold → Type 0
+RightCalls w old new = AddedSuch (IsRightCall w) old new
 
 -- each call that was added is right; disks that are sound stay so, and where they tell, no read missed, and p
 pub record RightWork {D : Type 0} (g : Disks D) (w : World) (old new : D) (p : Type 0) : Type 0 where

@@ -13,6 +13,7 @@ pub record FileWrite : Type 0 where
   pub name : Name
   pub bytes : List ℕ
 
+-- these bytes are written as the file of a name on a node
 abbrev pub write_at : ℕ → Name → List ℕ → FileWrite
 write_at node name bytes = record { node = node; name = name; bytes = bytes }
 
@@ -29,6 +30,7 @@ abbrev pub copies_with : List FileWrite → List Copy → List Copy
 copies_with [] copies = copies
 copies_with (it ∷ writes) copies = copies_with writes (with_copy (copy_of_bytes it.name it.node it.bytes) copies)
 
+-- the table, once these files are written
 abbrev pub table_with : List FileWrite → Replicas → Replicas
 table_with writes table = record table { copies = copies_with writes table.copies }
 

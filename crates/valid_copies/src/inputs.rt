@@ -10,6 +10,7 @@ ghost use Rattle.valid_copies.specs.Inputs.{InputsOrStarved, InputsStopped, coun
 ghost use Rattle.run_model.specs.Reading.{counted, is_cache, nothing_read};
 ghost use Rattle.run_model.specs.State.{PlainCluster};
 ghost use Rattle.valid_copies.specs.ReadCounts.{read_so_far};
+ghost use Rattle.valid_copies.specs.LastWrites.{ReadsCopies};
 ghost use Rattle.valid_copies.specs.Readings.{IsFile};
 ghost use Rattle.valid_copies.specs.RightCalls.{RightWork};
 ghost use Rattle.valid_copies.specs.Stands.{Stands};
@@ -41,6 +42,7 @@ pub fn read_inputs<D: Disks>(
     ensures device { IfErr result (λ fault. AtDevice fault (Rose (D.faults disks.old) (D.faults disks.new))) }
     ensures missed { IfErr result (λ fault. AtMissed fault (Rose (D.misses disks.old) (D.misses disks.new))) }
     ensures valid { (w : World) (copies : List Copy) → Stands w copies (D.told disks.old) → Stands w copies (D.told disks.new) }
+    ensures asked { ReadsCopies desk.now.table.copies (D.told disks.old) (D.told disks.new) }
     ensures calls { (w : World) → Stands w desk.now.table.copies (D.told disks.old) → RightWork D.Disks w disks.old disks.new (IfErr result (λ fault. AtMissed fault ⊥)) }
     ensures puts_stay { PutStays (D.told disks.old) (D.told disks.new) }
     ensures damage_shown { D.shows_damage disks.old → D.shows_damage disks.new }

@@ -8,6 +8,7 @@ ghost use Rattle.node_files.specs.Faults.{AtDevice};
 ghost use Rattle.node_files.specs.KeptFiles.{HasDigest, IsFetched, IsFound, OnMissed, file_of};
 ghost use Rattle.replica_table.specs.Copies.{Copy, but_file, but_node, held, with_copy};
 ghost use Rattle.replica_table.specs.Sets.{among};
+ghost use Rattle.valid_copies.specs.LastWrites.{ReadsCopies};
 ghost use Rattle.valid_copies.specs.Readings.{IsTextOf};
 ghost use Rattle.valid_copies.specs.RightCalls.{RightWork};
 ghost use Rattle.valid_copies.specs.Stands.{IsText, OthersStay, Stands, copy_of_bytes};
@@ -58,6 +59,7 @@ pub fn fetch_copy<D: Disks>(alloc: Global, disks: &mut D, file: &FileRef) -> Res
     ensures done { IfOk result (λ fetched. OnTold (IsFetched file.now fetched) (D.told disks.old) (D.told disks.new)) }
     ensures failed { OnErr result (OnTold (NotRead file.now.node file.now.name file.now.digest.0 (Rose (D.misses disks.old) (D.misses disks.new))) (D.told disks.old) (D.told disks.new)) }
     ensures text { D.shows_damage disks.old → IfOk result (λ found. (w : World) (copies : List Copy) → Stands w copies (D.told disks.old) → IsSome (D.told disks.old) → held file.now.name file.now.node copies ≡ Some file.now.digest → IsText (text_of w file.now.name) found) }
+    ensures asked { (copies : List Copy) → held file.now.name file.now.node copies ≡ Some file.now.digest → ReadsCopies copies (D.told disks.old) (D.told disks.new) }
     ensures calls { (w : World) (copies : List Copy) → Stands w copies (D.told disks.old) → held file.now.name file.now.node copies ≡ Some file.now.digest → RightWork D.Disks w disks.old disks.new (IfOk result (λ found. OnMissed found ⊥)) }
     ensures valid { (w : World) (copies : List Copy) → Stands w copies (D.told disks.old) → Stands w copies (D.told disks.new) }
     ensures damage_shown { D.shows_damage disks.old → D.shows_damage disks.new }

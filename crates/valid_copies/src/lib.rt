@@ -20,5 +20,5 @@ pub use reading::{Found, read_all, read_need};
 pub use removing::{clear_nodes, remove_files};
 pub use rows::{rows_of, schema_of};
 pub use texts::bytes_tell_the_value;
-pub use tries::up_file;
+pub use tries::{first_try, up_file};
 pub use writing::{write_copy, write_further};

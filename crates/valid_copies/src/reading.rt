@@ -7,6 +7,7 @@ ghost use Rattle.valid_copies.specs.Stands.{Stands};
 ghost use Rattle.valid_copies.specs.Calls.{PutStays};
 ghost use Rattle.valid_copies.specs.Faults.{AtDevice, AtMissed};
 ghost use Rattle.valid_copies.specs.Files.{FoundAt, ReadOrStarved, StoppedBy};
+ghost use Rattle.valid_copies.specs.LastWrites.{ReadsCopies};
 ghost use Rattle.valid_copies.specs.Readings.{IsFile};
 ghost use Rattle.valid_copies.specs.RightCalls.{RightWork};
 
@@ -44,6 +45,7 @@ pub fn read_need<D: Disks>(
     ensures device { IfErr result (λ fault. AtDevice fault (Rose (D.faults disks.old) (D.faults disks.new))) }
     ensures missed { IfErr result (λ fault. AtMissed fault (Rose (D.misses disks.old) (D.misses disks.new))) }
     ensures valid { (w : World) (copies : List Copy) → Stands w copies (D.told disks.old) → Stands w copies (D.told disks.new) }
+    ensures asked { ReadsCopies desk.now.table.copies (D.told disks.old) (D.told disks.new) }
     ensures calls { (w : World) → Stands w desk.now.table.copies (D.told disks.old) → RightWork D.Disks w disks.old disks.new (IfErr result (λ fault. AtMissed fault ⊥)) }
     ensures puts_stay { PutStays (D.told disks.old) (D.told disks.new) }
     ensures damage_shown { D.shows_damage disks.old → D.shows_damage disks.new }
@@ -83,6 +85,7 @@ pub fn read_all<D: Disks>(
     ensures device { IfErr result (λ fault. AtDevice fault (Rose (D.faults disks.old) (D.faults disks.new))) }
     ensures missed { IfErr result (λ fault. AtMissed fault (Rose (D.misses disks.old) (D.misses disks.new))) }
     ensures valid { (w : World) (copies : List Copy) → Stands w copies (D.told disks.old) → Stands w copies (D.told disks.new) }
+    ensures asked { ReadsCopies desk.now.table.copies (D.told disks.old) (D.told disks.new) }
     ensures calls { (w : World) → Stands w desk.now.table.copies (D.told disks.old) → RightWork D.Disks w disks.old disks.new (IfErr result (λ fault. AtMissed fault ⊥)) }
     ensures puts_stay { PutStays (D.told disks.old) (D.told disks.new) }
     ensures damage_shown { D.shows_damage disks.old → D.shows_damage disks.new }

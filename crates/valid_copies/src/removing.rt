@@ -7,8 +7,9 @@ ghost use Rattle.run_model.specs.Removals.{ordered};
 ghost use Rattle.run_model.specs.Stays.{kept_round};
 ghost use Rattle.run_model.specs.Tasks.{is_cached};
 ghost use Rattle.hal_outside.specs.Told.{OnTold, Rose};
-ghost use Rattle.valid_copies.specs.Calls.{Added, Begun, Follows};
+ghost use Rattle.valid_copies.specs.Calls.{Added, Begun, CallsHave, Follows};
 ghost use Rattle.valid_copies.specs.Faults.{AtDevice, AtMissed};
+ghost use Rattle.valid_copies.specs.LastWrites.{AsksByDigests, KeepsDigests, WritesNothing};
 ghost use Rattle.valid_copies.specs.RightCalls.{RightWork};
 ghost use Rattle.valid_copies.specs.Removing.{OfClearing, OthersKept, RemovedSome, as_copies, goes, left_over, removal_of};
 ghost use Rattle.valid_copies.specs.Stands.{OthersStay, Stands};
@@ -78,6 +79,9 @@ fn clear_files<D: Disks>(
     ensures device { IfErr result (λ fault. AtDevice fault (Rose (D.faults disks.old) (D.faults disks.new))) }
     ensures not_missed { IsSome (D.told disks.old) → D.misses disks.new ≡ D.misses disks.old }
     ensures missed { IfErr result (λ fault. AtMissed fault ⊥) }
+    ensures agree { OnOk result (KeepsDigests table.old.copies table.new.copies (D.told disks.old) (D.told disks.new)) }
+    ensures asks { AsksByDigests table.old.copies (D.told disks.old) (D.told disks.new) }
+    ensures wrote_nothing { CallsHave WritesNothing (D.told disks.old) (D.told disks.new) }
     ensures calls { (w : World) → RightWork D.Disks w disks.old disks.new (IfErr result (λ fault. AtMissed fault ⊥)) }
     ensures damage_shown { D.shows_damage disks.old → D.shows_damage disks.new }
     ensures soundness_kept { D.sound disks.old → D.sound disks.new }
@@ -116,6 +120,9 @@ pub fn clear_nodes<D: Disks>(
     ensures device { IfErr result (λ fault. AtDevice fault (Rose (D.faults disks.old) (D.faults disks.new))) }
     ensures not_missed { IsSome (D.told disks.old) → D.misses disks.new ≡ D.misses disks.old }
     ensures missed { IfErr result (λ fault. AtMissed fault ⊥) }
+    ensures agree { OnOk result (KeepsDigests table.old.copies table.new.copies (D.told disks.old) (D.told disks.new)) }
+    ensures asks { AsksByDigests table.old.copies (D.told disks.old) (D.told disks.new) }
+    ensures wrote_nothing { CallsHave WritesNothing (D.told disks.old) (D.told disks.new) }
     ensures calls { (w : World) → RightWork D.Disks w disks.old disks.new (IfErr result (λ fault. AtMissed fault ⊥)) }
     ensures damage_shown { D.shows_damage disks.old → D.shows_damage disks.new }
     ensures soundness_kept { D.sound disks.old → D.sound disks.new }

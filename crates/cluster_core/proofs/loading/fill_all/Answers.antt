@@ -10,6 +10,9 @@ use Rattle.cluster_core.proofs.LoadTexts.{none_stand}
 use Rattle.cluster_core.specs.Disks.{Leaves}
 use Rattle.cluster_core.specs.Filling.{load_files}
 use Rattle.cluster_core.specs.Loading.{setup_of}
+use Rattle.valid_copies.proofs.Digests.{none_agree}
+use Rattle.valid_copies.proofs.WrittenCalls.{wrote_keep}
+use Rattle.valid_copies.specs.LastWrites.{DigestsAgree}
 use Rattle.cluster_core.proofs.loading.fill_all.Goals as goal
 
 pub returns-in_err-wipe_all-clause-begun : goal.returns-in_err-wipe_all-clause-begun
@@ -33,3 +36,8 @@ returns-clause-disks g c =
 
 pub returns-clause-valid : goal.returns-clause-valid
 returns-clause-valid g c = λ w texts. c.in_ok-write_tables.ensures.filled.valid w texts (subst (λ copies. Stands w copies (g.D.Disks.told c.wipe_all.new.disks)) (sym c.in_ok-table.ensures.copies) (none_stand w (g.D.Disks.told c.wipe_all.new.disks)))
+
+pub returns-clause-agree : goal.returns-clause-agree
+returns-clause-agree g c =
+    wrote_keep (g.D.Disks.told c.wipe_all.new.disks) (g.D.Disks.told c.write_tables.new.disks) c.in_ok-table.table c.write_tables.new.table (load_files (setup_of c.args.given.now.shape.now c.args.given.now.schedule.now) c.args.given.now.tables.now) c.in_ok-write_tables.ensures.filled.wrote
+    (subst (λ copies. DigestsAgree copies (g.D.Disks.told c.wipe_all.new.disks)) (sym c.in_ok-table.ensures.copies) (none_agree (g.D.Disks.told c.wipe_all.new.disks)))

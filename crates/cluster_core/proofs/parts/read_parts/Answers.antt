@@ -1,10 +1,14 @@
-use Rattle.std.proofs.Common.{None, Some, List, arith, subst}
+use Rattle.std.proofs.Common.{None, Some, List, arith, subst, sym, ◌∷◌, []}
 use Rattle.hal_base.specs.declared.record.Record.{Record}
 use Rattle.node_names.specs.declared.name.Name.TheVariants.{Out}
 use Rattle.cluster_core.specs.Parts.{IsValueOf, PartFollows, PartStopped}
-use Rattle.valid_copies.proofs.Coming.{puts_more}
-use Rattle.cluster_core.proofs.PartLoops.{parts_memory, parts_more, parts_starve, parts_stop}
-use Rattle.valid_copies.proofs.Rightly.{works_more}
+use Rattle.valid_copies.proofs.Coming.{puts_more, puts_none}
+use Rattle.cluster_core.proofs.PartLoops.{parts_memory, parts_more, parts_starve, parts_stop, PartsSoFar, parts_none}
+use Rattle.valid_copies.proofs.Rightly.{works_more, works_none}
+use Rattle.valid_copies.proofs.Adding.{such_more, such_none}
+use Rattle.valid_copies.specs.LastWrites.{AsksForCopy}
+use Rattle.cluster_core.proofs.Origins.{answers_more, no_answers}
+use Rattle.cluster_core.specs.Origins.{AreAnswers}
 use Rattle.cluster_core.proofs.parts.read_parts.Goals as goal
 
 pub returns-in-Err-push-clause-stopped : goal.returns-in-Err-push-clause-stopped
@@ -31,6 +35,8 @@ parts-preserved g c =
       faults = omega (arith, c.parts.invariant.faults, c.in-Ok-Some.ensures.faults_stay);
       misses = omega (arith, c.parts.invariant.misses, c.in-Ok-Some.ensures.misses_stay);
       puts = puts_more (g.D.Disks.told c.args.disks.now) (g.D.Disks.told c.parts.disks) (g.D.Disks.told c.read_part.new.disks) c.parts.invariant.puts c.in-Ok-Some.ensures.puts_stay;
+      asked = such_more (AsksForCopy c.args.table.now.copies) (g.D.Disks.told c.args.disks.now) (g.D.Disks.told c.parts.disks) (g.D.Disks.told c.read_part.new.disks) c.parts.invariant.asked c.in-Ok-Some.ensures.asked;
+      answers = subst (λ ps. AreAnswers c.args.shape.now ps (g.D.Disks.told c.args.disks.now) (g.D.Disks.told c.read_part.new.disks)) (sym c.in-Ok.ensures.ok) (answers_more c.args.shape.now c.parts.parts (c.in-Ok-Some.rows ∷ []) (g.D.Disks.told c.args.disks.now) (g.D.Disks.told c.parts.disks) (g.D.Disks.told c.read_part.new.disks) c.parts.invariant.answers (rw c.in-Ok-Some.field-0-is at c.in-Ok-Some.ensures.answers));
       right = λ w s. works_more g.D.Disks w c.args.disks.now c.parts.disks c.read_part.new.disks _ _ (c.parts.invariant.right w s) (c.in-Ok-Some.ensures.calls w (c.parts.invariant.so_far.stands w c.args.table.now.copies s));
       soundness = λ s. c.in-Ok-Some.ensures.soundness_kept (c.parts.invariant.soundness s);
     }
@@ -43,3 +49,24 @@ returns-in-Ok-None-clause-calls g c = λ w s. works_more g.D.Disks w c.args.disk
 
 pub returns-in-Err-clause-calls : goal.returns-in-Err-clause-calls
 returns-in-Err-clause-calls g c = λ w s. works_more g.D.Disks w c.args.disks.now c.parts.disks c.read_part.new.disks _ _ (c.parts.invariant.right w s) (c.in-Err.ensures.calls w (c.parts.invariant.so_far.stands w c.args.table.now.copies s))
+
+pub parts-init : goal.parts-init
+parts-init g c = record {
+  so_far = subst (PartsSoFar c.args.shape.now c.args.table.now c.args.round _ _ _ _ 0) (sym c.new-parts.ensures) (parts_none c.args.shape.now c.args.table.now c.args.round _ _);
+  faults = omega arith;
+  misses = omega arith;
+  puts = puts_none (g.D.Disks.told c.args.disks.now);
+  asked = such_none (AsksForCopy c.args.table.now.copies) (g.D.Disks.told c.args.disks.now);
+  answers = subst (λ ps. AreAnswers c.args.shape.now ps (g.D.Disks.told c.args.disks.now) (g.D.Disks.told c.args.disks.now)) (sym c.new-parts.ensures) (no_answers c.args.shape.now (g.D.Disks.told c.args.disks.now));
+  right = λ w s. works_none g.D.Disks w c.args.disks.now (Unit {0}) tt;
+  soundness = λ s. s;
+}
+
+pub returns-in-Err-push-clause-asked : goal.returns-in-Err-push-clause-asked
+returns-in-Err-push-clause-asked g c = such_more (AsksForCopy c.args.table.now.copies) (g.D.Disks.told c.args.disks.now) (g.D.Disks.told c.parts.disks) (g.D.Disks.told c.read_part.new.disks) c.parts.invariant.asked c.in-Ok-Some.ensures.asked
+
+pub returns-in-Ok-None-clause-asked : goal.returns-in-Ok-None-clause-asked
+returns-in-Ok-None-clause-asked g c = such_more (AsksForCopy c.args.table.now.copies) (g.D.Disks.told c.args.disks.now) (g.D.Disks.told c.parts.disks) (g.D.Disks.told c.read_part.new.disks) c.parts.invariant.asked c.in-Ok-None.ensures.asked
+
+pub returns-in-Err-clause-asked : goal.returns-in-Err-clause-asked
+returns-in-Err-clause-asked g c = such_more (AsksForCopy c.args.table.now.copies) (g.D.Disks.told c.args.disks.now) (g.D.Disks.told c.parts.disks) (g.D.Disks.told c.read_part.new.disks) c.parts.invariant.asked c.in-Err.ensures.asked

@@ -1,6 +1,6 @@
 use Rattle.std.proofs.Common.{◌≡◌, ◌∙◌, ℕ, List, Some, Ok, Err, ap, refl, subst, sym}
 use Rattle.std.proofs.lemmas.Result.{err_from_is_err_and}
-use Rattle.cluster_core.specs.Clusters.{IsByChain, IsRightAfter, Progress}
+use Rattle.cluster_core.specs.Clusters.{IsByChain, IsRightAfter, Progress, RanToEnd, RanToFault}
 use Rattle.cluster_core.specs.Faults.{AtMissed, AtRefusal}
 use Rattle.cluster_core.specs.Loading.{IsOver, setup_of as cluster_setup}
 use Rattle.cluster_core.specs.States.{Seen, plain_of}
@@ -122,7 +122,7 @@ returns-in-Ok-run-clause-replayed g c =
     c.loaded_cluster.ensures.not_missed c.loaded_cluster.ensures.left cluster
     (subst (λ (s : Shape). IsLoadedFor d (cluster_setup s schedule) tables old mid cluster) is c.in-Ok.ensures.loaded)
     (world_fits program schedule tables c.new-typed.result.shape is c.requires.can c.requires.fit c.new-typed.ensures.well_formed (subst (λ (m : Meaning). FunctionsFit m c.new-typed.result.shape) made c.new-typed.ensures.fits))
-    new state c.run.ensures.disks it (c.in-Ok-run.ensures.finished none)
+    new state c.run.ensures.disks it (subst (λ (m : Meaning). RanToEnd m cluster.state (d.told mid) state (d.told new) it) run (c.in-Ok-run.ensures.finished none))
     (subst (λ (m : Meaning). IsByChain m cluster.state (d.shows_damage mid) (d.told mid) (d.told new) state.plain (Ok it)) run (c.in-Ok-run.ensures.by_chain none))
     (subst (λ (m : Meaning). d.shows_damage mid → OverRight m cluster.state.setup (d.told mid) cluster.state.kept (λ w. OnTold (RightCalls w) (d.told mid) (d.told new))) run (c.in-Ok-run.ensures.texts none))
     (subst (λ (m : Meaning). d.sound mid → OverRight m cluster.state.setup (d.told mid) cluster.state.kept (λ w. (d.misses new ≡ d.misses mid) × Unit {0})) run (c.in-Ok-run.ensures.unmissed none))
@@ -153,7 +153,7 @@ returns-clause-refused g c =
     c.loaded_cluster.ensures.not_missed c.loaded_cluster.ensures.left cluster
     (subst (λ (s : Shape). IsLoadedFor d (cluster_setup s schedule) tables old mid cluster) is c.in-Ok.ensures.loaded)
     (world_fits program schedule tables c.new-typed.result.shape is c.requires.can c.requires.fit c.new-typed.ensures.well_formed (subst (λ (m : Meaning). FunctionsFit m c.new-typed.result.shape) made c.new-typed.ensures.fits))
-    new state c.run.ensures.disks seen (c.loaded_cluster.ensures.left.faults_stay, c.loaded_cluster.ensures.left.misses_stay) fault (c.in-Err-run.ensures.refused none)
+    new state c.run.ensures.disks seen (c.loaded_cluster.ensures.left.faults_stay, c.loaded_cluster.ensures.left.misses_stay) fault (subst (λ (m : Meaning). RanToFault m cluster.state (d.told mid) state (d.told new) fault) run (c.in-Err-run.ensures.refused none))
     (subst (λ (m : Meaning). IsByChain m cluster.state (d.shows_damage mid) (d.told mid) (d.told new) state.plain (Err fault)) run (c.in-Err-run.ensures.by_chain none))
     (subst (λ (m : Meaning). d.shows_damage mid → OverRight m cluster.state.setup (d.told mid) cluster.state.kept (λ w. OnTold (RightCalls w) (d.told mid) (d.told new))) run (c.in-Err-run.ensures.texts none))
     (subst (λ (m : Meaning). d.sound mid → OverRight m cluster.state.setup (d.told mid) cluster.state.kept (λ w. (d.misses new ≡ d.misses mid) × AtMissed fault ⊥)) run (c.in-Err-run.ensures.unmissed none))

@@ -46,6 +46,9 @@ returns-clause-partly g c = λ e. law.left _ _ _ _ _ _ _ _ _ _ _ c.perform.ensur
 pub returns-clause-began : goal.returns-clause-began
 returns-clause-began g c = λ e. law.began _ _ _ _ _ _ _ _ _ _ _ c.perform.ensures.performed
 
+pub returns-clause-unmissed : goal.returns-clause-unmissed
+returns-clause-unmissed g c = law.unmissed _ _ _ _ _ _ _ _ _ _ _ c.perform.ensures.performed
+
 pub returns-clause-usage_answered : goal.returns-clause-usage_answered
 returns-clause-usage_answered g c = law.usage_answered _ _ _ _ _ _ _ _ _ _ _ c.perform.ensures.performed
 

@@ -4,6 +4,8 @@ use Rattle.valid_copies.proofs.InputReads.{InputsSoFar, inputs_memory, inputs_mo
 use Rattle.valid_copies.specs.Files.{AllRead, StarvedAt, StoppedBy}
 use Rattle.valid_copies.specs.Inputs.{names_in}
 use Rattle.valid_copies.proofs.Coming.{puts_more, puts_none}
+use Rattle.valid_copies.proofs.Adding.{such_more, such_none}
+use Rattle.valid_copies.specs.LastWrites.{AsksForCopy}
 use Rattle.valid_copies.specs.Readings.{IsFile}
 use Rattle.valid_copies.proofs.Rightly.{works_more, works_none}
 use Rattle.valid_copies.proofs.inputs.read_inputs.Goals as goal
@@ -15,6 +17,7 @@ inputs-init g c = record {
   misses = omega arith;
   puts = puts_none (g.D.Disks.told c.args.disks.now);
   all_files = c.requires.all_files;
+  asked = such_none (AsksForCopy c.args.desk.now.table.copies) (g.D.Disks.told c.args.disks.now);
   right = λ w s. works_none g.D.Disks w c.args.disks.now (Unit {0}) tt;
 }
 
@@ -31,6 +34,7 @@ inputs-preserved g c =
       misses = omega (arith, c.inputs.invariant.misses, c.in-Ok-Some.ensures.misses_stay);
       puts = puts_more (g.D.Disks.told c.args.disks.now) (g.D.Disks.told c.inputs.disks) _ c.inputs.invariant.puts c.in-Ok-Some.ensures.puts_stay;
       all_files = all.1;
+      asked = such_more (AsksForCopy c.args.desk.now.table.copies) (g.D.Disks.told c.args.disks.now) (g.D.Disks.told c.inputs.disks) _ c.inputs.invariant.asked c.in-Ok-Some.ensures.asked;
       right = λ w s. works_more g.D.Disks w c.args.disks.now c.inputs.disks c.read_all.new.disks _ _ (c.inputs.invariant.right w s) (c.in-Ok-Some.ensures.calls w (c.inputs.invariant.so_far.stands w c.args.desk.now.table.copies s));
     }
 
@@ -62,3 +66,12 @@ returns-in-Ok-None-clause-calls g c = λ w s. works_more g.D.Disks w c.args.disk
 
 pub returns-in-Err-clause-calls : goal.returns-in-Err-clause-calls
 returns-in-Err-clause-calls g c = λ w s. works_more g.D.Disks w c.args.disks.now c.inputs.disks c.read_all.new.disks _ _ (c.inputs.invariant.right w s) (c.in-Err.ensures.calls w (c.inputs.invariant.so_far.stands w c.args.desk.now.table.copies s))
+
+pub returns-in-Err-keep_parts-clause-asked : goal.returns-in-Err-keep_parts-clause-asked
+returns-in-Err-keep_parts-clause-asked g c = such_more (AsksForCopy c.args.desk.now.table.copies) (g.D.Disks.told c.args.disks.now) (g.D.Disks.told c.inputs.disks) _ c.inputs.invariant.asked c.in-Ok-Some.ensures.asked
+
+pub returns-in-Ok-None-clause-asked : goal.returns-in-Ok-None-clause-asked
+returns-in-Ok-None-clause-asked g c = such_more (AsksForCopy c.args.desk.now.table.copies) (g.D.Disks.told c.args.disks.now) (g.D.Disks.told c.inputs.disks) _ c.inputs.invariant.asked c.in-Ok-None.ensures.asked
+
+pub returns-in-Err-clause-asked : goal.returns-in-Err-clause-asked
+returns-in-Err-clause-asked g c = such_more (AsksForCopy c.args.desk.now.table.copies) (g.D.Disks.told c.args.disks.now) (g.D.Disks.told c.inputs.disks) _ c.inputs.invariant.asked c.in-Err.ensures.asked

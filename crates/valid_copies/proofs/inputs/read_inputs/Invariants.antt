@@ -4,6 +4,7 @@ use Rattle.valid_copies.proofs.InputReads.{InputsSoFar}
 use Rattle.valid_copies.specs.Inputs.{names_in}
 use Rattle.valid_copies.specs.Calls.{PutStays}
 use Rattle.name_values.specs.Values.{World}
+use Rattle.valid_copies.specs.LastWrites.{ReadsCopies}
 use Rattle.valid_copies.specs.Readings.{IsFile}
 use Rattle.valid_copies.specs.RightCalls.{RightWork}
 use Rattle.valid_copies.specs.Stands.{Stands}
@@ -16,6 +17,7 @@ invariant-inputs g l = record {
   misses : g.D.Disks.misses l.initial.disks ≤ g.D.Disks.misses l.disks;
   puts : PutStays (g.D.Disks.told l.initial.disks) (g.D.Disks.told l.disks);
   all_files : AllByRecursion (AllByRecursion IsFile) (names_in l.rest);
+  asked : ReadsCopies l.fn.desk.table.copies (g.D.Disks.told l.initial.disks) (g.D.Disks.told l.disks);
   right : (w : World) → Stands w l.fn.desk.table.copies (g.D.Disks.told l.initial.disks) → RightWork g.D.Disks w l.initial.disks l.disks (Unit {0});
 }
 

@@ -2,6 +2,8 @@ use Rattle.std.proofs.Common.{sym, subst, arith}
 use Rattle.std.specs.List.{AllByRecursion}
 use Rattle.valid_copies.proofs.Coming.{SoFar, so_far_memory, so_far_more, so_far_none, so_far_stopped}
 use Rattle.valid_copies.proofs.Coming.{puts_more, puts_none}
+use Rattle.valid_copies.proofs.Adding.{such_more, such_none}
+use Rattle.valid_copies.specs.LastWrites.{AsksForCopy}
 use Rattle.valid_copies.specs.Readings.{IsFile}
 use Rattle.valid_copies.proofs.Rightly.{works_more, works_none}
 use Rattle.valid_copies.proofs.reading.read_all.Goals as goal
@@ -13,6 +15,7 @@ names-init g c = record {
   misses = omega arith;
   puts = puts_none (g.D.Disks.told c.args.disks.now);
   all_files = c.requires.all_files;
+  asked = such_none (AsksForCopy c.args.desk.now.table.copies) (g.D.Disks.told c.args.disks.now);
   right = λ w s. works_none g.D.Disks w c.args.disks.now (Unit {0}) tt;
 }
 
@@ -27,6 +30,7 @@ names-preserved g c =
       misses = omega (arith, c.names.invariant.misses, c.in-Ok-Some.ensures.misses_stay);
       puts = puts_more (g.D.Disks.told c.args.disks.now) (g.D.Disks.told c.names.disks) _ c.names.invariant.puts c.in-Ok-Some.ensures.puts_stay;
       all_files = all.1;
+      asked = such_more (AsksForCopy c.args.desk.now.table.copies) (g.D.Disks.told c.args.disks.now) (g.D.Disks.told c.names.disks) _ c.names.invariant.asked c.in-Ok-Some.ensures.asked;
       right = λ w s. works_more g.D.Disks w c.args.disks.now c.names.disks c.read_need.new.disks _ _ (c.names.invariant.right w s) (c.in-Ok-Some.ensures.calls w (c.names.invariant.so_far.stands w c.args.desk.now.table.copies s));
     }
 
@@ -46,3 +50,12 @@ returns-in-Ok-None-clause-calls g c = λ w s. works_more g.D.Disks w c.args.disk
 
 pub returns-in-Err-clause-calls : goal.returns-in-Err-clause-calls
 returns-in-Err-clause-calls g c = λ w s. works_more g.D.Disks w c.args.disks.now c.names.disks c.read_need.new.disks _ _ (c.names.invariant.right w s) (c.in-Err.ensures.calls w (c.names.invariant.so_far.stands w c.args.desk.now.table.copies s))
+
+pub returns-in-Err-keep-clause-asked : goal.returns-in-Err-keep-clause-asked
+returns-in-Err-keep-clause-asked g c = such_more (AsksForCopy c.args.desk.now.table.copies) (g.D.Disks.told c.args.disks.now) (g.D.Disks.told c.names.disks) _ c.names.invariant.asked c.in-Ok-Some.ensures.asked
+
+pub returns-in-Ok-None-clause-asked : goal.returns-in-Ok-None-clause-asked
+returns-in-Ok-None-clause-asked g c = such_more (AsksForCopy c.args.desk.now.table.copies) (g.D.Disks.told c.args.disks.now) (g.D.Disks.told c.names.disks) _ c.names.invariant.asked c.in-Ok-None.ensures.asked
+
+pub returns-in-Err-clause-asked : goal.returns-in-Err-clause-asked
+returns-in-Err-clause-asked g c = such_more (AsksForCopy c.args.desk.now.table.copies) (g.D.Disks.told c.args.disks.now) (g.D.Disks.told c.names.disks) _ c.names.invariant.asked c.in-Err.ensures.asked

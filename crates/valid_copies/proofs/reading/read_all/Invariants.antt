@@ -3,6 +3,7 @@ use Rattle.std.specs.List.{AllByRecursion}
 use Rattle.valid_copies.proofs.Coming.{SoFar}
 use Rattle.valid_copies.specs.Calls.{PutStays}
 use Rattle.name_values.specs.Values.{World}
+use Rattle.valid_copies.specs.LastWrites.{ReadsCopies}
 use Rattle.valid_copies.specs.Readings.{IsFile}
 use Rattle.valid_copies.specs.RightCalls.{RightWork}
 use Rattle.valid_copies.specs.Stands.{Stands}
@@ -15,6 +16,7 @@ invariant-names g l = record {
   misses : g.D.Disks.misses l.initial.disks ≤ g.D.Disks.misses l.disks;
   puts : PutStays (g.D.Disks.told l.initial.disks) (g.D.Disks.told l.disks);
   all_files : AllByRecursion IsFile l.rest;
+  asked : ReadsCopies l.fn.desk.table.copies (g.D.Disks.told l.initial.disks) (g.D.Disks.told l.disks);
   right : (w : World) → Stands w l.fn.desk.table.copies (g.D.Disks.told l.initial.disks) → RightWork g.D.Disks w l.initial.disks l.disks (Unit {0});
 }
 

@@ -1,5 +1,7 @@
 use Rattle.std.proofs.Common.{subst}
 use Rattle.valid_copies.specs.Readings.{StandsFor}
+use Rattle.valid_copies.proofs.Adding.{such_none}
+use Rattle.valid_copies.specs.LastWrites.{AsksForCopy}
 use Rattle.valid_copies.proofs.Coming.{Asks, came_one, failed_one, fetched_added, missed_one, stopped_one}
 use Rattle.valid_copies.specs.Files.{Any, Desk}
 use Rattle.hal_outside.specs.DiskCalls as disk
@@ -47,3 +49,21 @@ returns-in-Err-Device-clause-calls g c = λ w s. c.in-Err-Device.ensures.calls w
 
 pub returns-clause-calls : goal.returns-clause-calls
 returns-clause-calls g c = λ w s. c.in-Err-Memory.ensures.calls w c.args.desk.now.table.copies s c.in-Some.ensures.kept
+
+pub returns-in_default-clause-asked : goal.returns-in_default-clause-asked
+returns-in_default-clause-asked g c = such_none (AsksForCopy c.args.desk.now.table.copies) (g.D.Disks.told c.args.disks.now)
+
+pub returns-in-Ok-clause-asked : goal.returns-in-Ok-clause-asked
+returns-in-Ok-clause-asked g c = c.in-Ok-Bytes.ensures.asked c.args.desk.now.table.copies c.in-Some.ensures.kept
+
+pub returns-in-Ok-Bytes-clause-asked : goal.returns-in-Ok-Bytes-clause-asked
+returns-in-Ok-Bytes-clause-asked g c = c.in-Ok-Bytes.ensures.asked c.args.desk.now.table.copies c.in-Some.ensures.kept
+
+pub returns-in-Ok-Missed-clause-asked : goal.returns-in-Ok-Missed-clause-asked
+returns-in-Ok-Missed-clause-asked g c = c.in-Ok-Missed.ensures.asked c.args.desk.now.table.copies c.in-Some.ensures.kept
+
+pub returns-in-Err-Device-clause-asked : goal.returns-in-Err-Device-clause-asked
+returns-in-Err-Device-clause-asked g c = c.in-Err-Device.ensures.asked c.args.desk.now.table.copies c.in-Some.ensures.kept
+
+pub returns-clause-asked : goal.returns-clause-asked
+returns-clause-asked g c = c.in-Err-Memory.ensures.asked c.args.desk.now.table.copies c.in-Some.ensures.kept

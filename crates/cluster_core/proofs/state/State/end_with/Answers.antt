@@ -15,6 +15,10 @@ use Rattle.name_values.specs.Values.{World}
 use Rattle.valid_copies.specs.RightCalls.{RightWork}
 use Rattle.valid_copies.specs.Stands.{Stands}
 use Rattle.valid_copies.specs.Faults as work
+use Rattle.valid_copies.proofs.WrittenCalls.{reads_ask, reads_keep, reads_write_nothing}
+use Rattle.valid_copies.specs.LastWrites.{AsksByDigests, KeepsDigests}
+use Rattle.replica_table.specs.Copies.{Replicas}
+use Rattle.cluster_core.proofs.Refused.{missed_so}
 use Rattle.cluster_core.proofs.state.State.end_with.Goals as goal
 
 pub returns-in-Ok-clause-read : goal.returns-in-Ok-clause-read
@@ -52,3 +56,40 @@ returns-in-Ok-None-clause-calls g c = subst (λ (s : Seen). (w : World) → Stan
 
 pub returns-in-Err-clause-calls : goal.returns-in-Err-clause-calls
 returns-in-Err-clause-calls g c = subst (λ (s : Seen). (w : World) → Stands w s.kept.table.copies (g.D.Disks.told c.args.disks.now) → RightWork g.D.Disks w c.args.disks.now c.read_parts.new.disks (work.AtMissed c.in-Err.fault ⊥)) c.self.view_is c.in-Err.ensures.calls
+
+pub returns-in-Ok-clause-agree : goal.returns-in-Ok-clause-agree
+returns-in-Ok-clause-agree g c =
+    subst (λ (t : Replicas). KeepsDigests c.args.self.now.kept.table.copies t.copies (g.D.Disks.told c.args.disks.now) (g.D.Disks.told c.read_parts.new.disks)) (sym c.in-Ok.ensures.table)
+    (subst (λ (s : Seen). KeepsDigests s.kept.table.copies s.kept.table.copies (g.D.Disks.told c.args.disks.now) (g.D.Disks.told c.read_parts.new.disks)) c.self.view_is (reads_keep c.self.inside.table.copies (g.D.Disks.told c.args.disks.now) (g.D.Disks.told c.read_parts.new.disks) c.in-Ok-Some.ensures.asked))
+
+pub returns-in-Ok-clause-asks : goal.returns-in-Ok-clause-asks
+returns-in-Ok-clause-asks g c = subst (λ (s : Seen). AsksByDigests s.kept.table.copies (g.D.Disks.told c.args.disks.now) (g.D.Disks.told c.read_parts.new.disks)) c.self.view_is (reads_ask c.self.inside.table.copies (g.D.Disks.told c.args.disks.now) (g.D.Disks.told c.read_parts.new.disks) c.in-Ok-Some.ensures.asked)
+
+pub returns-in-Ok-clause-wrote_nothing : goal.returns-in-Ok-clause-wrote_nothing
+returns-in-Ok-clause-wrote_nothing g c = reads_write_nothing c.self.inside.table.copies (g.D.Disks.told c.args.disks.now) (g.D.Disks.told c.read_parts.new.disks) c.in-Ok-Some.ensures.asked
+
+pub returns-in-Err-note_end-clause-asks : goal.returns-in-Err-note_end-clause-asks
+returns-in-Err-note_end-clause-asks g c = subst (λ (s : Seen). AsksByDigests s.kept.table.copies (g.D.Disks.told c.args.disks.now) (g.D.Disks.told c.read_parts.new.disks)) c.self.view_is (reads_ask c.self.inside.table.copies (g.D.Disks.told c.args.disks.now) (g.D.Disks.told c.read_parts.new.disks) c.in-Ok-Some.ensures.asked)
+
+pub returns-in-Err-note_end-clause-wrote_nothing : goal.returns-in-Err-note_end-clause-wrote_nothing
+returns-in-Err-note_end-clause-wrote_nothing g c = reads_write_nothing c.self.inside.table.copies (g.D.Disks.told c.args.disks.now) (g.D.Disks.told c.read_parts.new.disks) c.in-Ok-Some.ensures.asked
+
+pub returns-in-Ok-None-clause-agree : goal.returns-in-Ok-None-clause-agree
+returns-in-Ok-None-clause-agree g c =
+    subst (λ (t : Replicas). KeepsDigests c.args.self.now.kept.table.copies t.copies (g.D.Disks.told c.args.disks.now) (g.D.Disks.told c.read_parts.new.disks)) (sym c.pass.ensures.table)
+    (subst (λ (s : Seen). KeepsDigests s.kept.table.copies s.kept.table.copies (g.D.Disks.told c.args.disks.now) (g.D.Disks.told c.read_parts.new.disks)) c.self.view_is (reads_keep c.self.inside.table.copies (g.D.Disks.told c.args.disks.now) (g.D.Disks.told c.read_parts.new.disks) c.in-Ok-None.ensures.asked))
+
+pub returns-in-Ok-None-clause-asks : goal.returns-in-Ok-None-clause-asks
+returns-in-Ok-None-clause-asks g c = subst (λ (s : Seen). AsksByDigests s.kept.table.copies (g.D.Disks.told c.args.disks.now) (g.D.Disks.told c.read_parts.new.disks)) c.self.view_is (reads_ask c.self.inside.table.copies (g.D.Disks.told c.args.disks.now) (g.D.Disks.told c.read_parts.new.disks) c.in-Ok-None.ensures.asked)
+
+pub returns-in-Ok-None-clause-wrote_nothing : goal.returns-in-Ok-None-clause-wrote_nothing
+returns-in-Ok-None-clause-wrote_nothing g c = reads_write_nothing c.self.inside.table.copies (g.D.Disks.told c.args.disks.now) (g.D.Disks.told c.read_parts.new.disks) c.in-Ok-None.ensures.asked
+
+pub returns-in-Err-clause-agree_still : goal.returns-in-Err-clause-agree_still
+returns-in-Err-clause-agree_still g c = missed_so c.in-Err.fault (subst (λ (s : Seen). KeepsDigests s.kept.table.copies s.kept.table.copies (g.D.Disks.told c.args.disks.now) (g.D.Disks.told c.read_parts.new.disks)) c.self.view_is (reads_keep c.self.inside.table.copies (g.D.Disks.told c.args.disks.now) (g.D.Disks.told c.read_parts.new.disks) c.in-Err.ensures.asked))
+
+pub returns-in-Err-clause-asks : goal.returns-in-Err-clause-asks
+returns-in-Err-clause-asks g c = subst (λ (s : Seen). AsksByDigests s.kept.table.copies (g.D.Disks.told c.args.disks.now) (g.D.Disks.told c.read_parts.new.disks)) c.self.view_is (reads_ask c.self.inside.table.copies (g.D.Disks.told c.args.disks.now) (g.D.Disks.told c.read_parts.new.disks) c.in-Err.ensures.asked)
+
+pub returns-in-Err-clause-wrote_nothing : goal.returns-in-Err-clause-wrote_nothing
+returns-in-Err-clause-wrote_nothing g c = reads_write_nothing c.self.inside.table.copies (g.D.Disks.told c.args.disks.now) (g.D.Disks.told c.read_parts.new.disks) c.in-Err.ensures.asked

@@ -22,6 +22,10 @@ use Rattle.cluster_core.proofs.Going.{advanced_open, advanced_orderly, few_failu
 use Rattle.cluster_core.specs.Works.{CallsRight}
 use Rattle.cluster_core.specs.Faults.{AtMissed}
 use Rattle.cluster_core.proofs.RightTurns.{core_unmissed, calls_so, read_calls, turn_calls}
+use Rattle.valid_copies.proofs.WrittenCalls.{ask_more}
+use Rattle.cluster_core.specs.Origins.{MadeOfReads}
+use Rattle.cluster_core.proofs.Origins.{made_later}
+use Rattle.cluster_core.proofs.Refused.{refusal_weaker}
 use Rattle.cluster_core.proofs.state.State.turn.Goals as goal
 
 pub go_on-requires-clause-orderly : goal.go_on-requires-clause-orderly
@@ -120,3 +124,22 @@ returns-in-Err-go_on-clause-keeps g c =
     let acts = subst (λ (setup : Setup). StaysRight (g.F.Functions.meaning c.args.functions.now) setup (g.D.Disks.shows_damage c.advance.new.disks) (g.D.Disks.told c.advance.new.disks) None c.advance.new.self.kept c.go_on.new.self.kept) c.in-Ok-None.ensures.same c.in-Err-go_on.ensures.keeps in
     acted_right (g.F.Functions.meaning c.args.functions.now) c.args.self.now.setup (g.D.Disks.shows_damage c.args.disks.now) (g.D.Disks.shows_damage c.advance.new.disks) (g.D.Disks.told c.args.disks.now) (g.D.Disks.told c.advance.new.disks) None c.args.self.now.kept c.advance.new.self.kept c.go_on.new.self.kept
     c.in-Ok-None.ensures.disks.damage_shown (λ t. still_told (g.D.Disks.told c.args.disks.now) (g.D.Disks.told c.advance.new.disks) advanced.calls advanced.added t) right acts
+
+pub returns-in-Ok-clause-asks : goal.returns-in-Ok-clause-asks
+returns-in-Ok-clause-asks g c = ask_more c.args.self.now.kept.table.copies c.advance.new.self.kept.table.copies (g.D.Disks.told c.args.disks.now) (g.D.Disks.told c.advance.new.disks) (g.D.Disks.told c.go_on.new.disks) c.in-Ok-None.ensures.asks c.in-Ok-None.ensures.agree c.in-Ok.ensures.asks
+
+pub returns-in-Ok-clause-made : goal.returns-in-Ok-clause-made
+returns-in-Ok-clause-made g c =
+    let later = subst (λ (setup : Setup). MadeOfReads (g.F.Functions.meaning c.args.functions.now) setup.shape c.go_on.new.self.kept.round c.advance.new.self.kept.values c.go_on.new.self.kept.values (g.D.Disks.told c.advance.new.disks) (g.D.Disks.told c.go_on.new.disks)) c.in-Ok-None.ensures.same c.in-Ok.ensures.made in
+    made_later (g.F.Functions.meaning c.args.functions.now) c.args.self.now.setup.shape c.go_on.new.self.kept.round c.args.self.now.kept.values c.advance.new.self.kept.values c.go_on.new.self.kept.values (g.D.Disks.told c.args.disks.now) (g.D.Disks.told c.advance.new.disks) (g.D.Disks.told c.go_on.new.disks) c.in-Ok-None.ensures.wrote_nothing c.in-Ok-None.ensures.old_values later
+
+pub returns-in-Err-go_on-clause-asks : goal.returns-in-Err-go_on-clause-asks
+returns-in-Err-go_on-clause-asks g c = ask_more c.args.self.now.kept.table.copies c.advance.new.self.kept.table.copies (g.D.Disks.told c.args.disks.now) (g.D.Disks.told c.advance.new.disks) (g.D.Disks.told c.go_on.new.disks) c.in-Ok-None.ensures.asks c.in-Ok-None.ensures.agree c.in-Err-go_on.ensures.asks
+
+pub returns-in-Err-go_on-clause-made : goal.returns-in-Err-go_on-clause-made
+returns-in-Err-go_on-clause-made g c =
+    let later = subst (λ (setup : Setup). MadeOfReads (g.F.Functions.meaning c.args.functions.now) setup.shape c.go_on.new.self.kept.round c.advance.new.self.kept.values c.go_on.new.self.kept.values (g.D.Disks.told c.advance.new.disks) (g.D.Disks.told c.go_on.new.disks)) c.in-Ok-None.ensures.same c.in-Err-go_on.ensures.made in
+    made_later (g.F.Functions.meaning c.args.functions.now) c.args.self.now.setup.shape c.go_on.new.self.kept.round c.args.self.now.kept.values c.advance.new.self.kept.values c.go_on.new.self.kept.values (g.D.Disks.told c.args.disks.now) (g.D.Disks.told c.advance.new.disks) (g.D.Disks.told c.go_on.new.disks) c.in-Ok-None.ensures.wrote_nothing c.in-Ok-None.ensures.old_values later
+
+pub returns-in-Err-go_on-clause-agree_still : goal.returns-in-Err-go_on-clause-agree_still
+returns-in-Err-go_on-clause-agree_still g c = refusal_weaker c.in-Err-go_on.fault (λ keep all. keep (c.in-Ok-None.ensures.agree all)) c.in-Err-go_on.ensures.agree_still

@@ -4,7 +4,7 @@ use Rattle.replica_table.specs.Copies.{Replicas, holders}
 use Rattle.std.proofs.lemmas.Result.{on_err_weaker, on_ok_weaker}
 use Rattle.cluster_core.specs.Disks.{Leaves}
 use Rattle.cluster_core.specs.Finishing.{BeganToWrite, CanFinish, goes_further}
-use Rattle.valid_copies.specs.Writes.{writes_at}
+use Rattle.valid_copies.specs.Writes.{writes_at, write_at}
 use Rattle.cluster_core.specs.States.{Seen}
 use Rattle.cluster_core.proofs.Inside.{kept_in, setup_in}
 use Rattle.cluster_core.proofs.Left.{beyond, leaves_more}
@@ -12,6 +12,10 @@ use Rattle.cluster_core.proofs.Writing.{began_here, began_there, further_within,
 use Rattle.valid_copies.proofs.Rightly.{works_more}
 use Rattle.cluster_core.proofs.Keeping.{some_stand}
 use Rattle.valid_copies.specs.Stands.{Stands}
+use Rattle.valid_copies.proofs.WrittenCalls.{ask_more, at_most_asks, at_most_such, wrote_keep, wrote_such, writes_ask, writes_such}
+use Rattle.valid_copies.proofs.Digests.{digests_wrote}
+use Rattle.valid_copies.proofs.Adding.{such_more}
+use Rattle.valid_copies.specs.LastWrites.{AsksByDigests, IsWriteOf, KeepsDigests}
 use Rattle.cluster_core.proofs.state.State.write_made.Goals as goal
 
 pub returns-in-Err-clause-begun : goal.returns-in-Err-clause-begun
@@ -83,3 +87,34 @@ returns-clause-digests g c =
     (λ some w text s. some_stand w c.args.name.now c.args.bytes.now text further own c.write_further.new.table between (g.D.Disks.told c.write_further.new.disks) between (some c.self.inside.shape)
     (c.in-Ok.ensures.valid w text (subst (λ (x : Seen). Stands w x.kept.table.copies (g.D.Disks.told c.args.disks.now)) (sym c.self.view_is) s)))
     c.write_further.ensures.begun
+
+pub returns-in-Err-clause-asks : goal.returns-in-Err-clause-asks
+returns-in-Err-clause-asks g c = at_most_asks c.args.self.now.kept.table.copies (g.D.Disks.told c.args.disks.now) (g.D.Disks.told c.write_copy.new.disks) (write_at c.args.attempt.now.node c.args.name.now c.args.bytes.now) c.in-Err.ensures.begun
+
+pub returns-in-Err-clause-wrote : goal.returns-in-Err-clause-wrote
+returns-in-Err-clause-wrote g c = at_most_such c.args.name.now c.args.bytes.now (g.D.Disks.told c.args.disks.now) (g.D.Disks.told c.write_copy.new.disks) c.args.attempt.now.node c.in-Err.ensures.begun
+
+pub returns-then-not-goes_further-clause-agree : goal.returns-then-not-goes_further-clause-agree
+returns-then-not-goes_further-clause-agree g c = subst (λ (s : Seen). KeepsDigests s.kept.table.copies c.write_copy.new.table.copies (g.D.Disks.told c.args.disks.now) (g.D.Disks.told c.write_copy.new.disks)) c.self.view_is (wrote_keep (g.D.Disks.told c.args.disks.now) (g.D.Disks.told c.write_copy.new.disks) c.self.inside.table c.write_copy.new.table (write_at c.args.attempt.now.node c.args.name.now c.args.bytes.now ∷ []) c.in-Ok.ensures.written)
+
+pub returns-then-not-goes_further-clause-asks : goal.returns-then-not-goes_further-clause-asks
+returns-then-not-goes_further-clause-asks g c = subst (λ (s : Seen). AsksByDigests s.kept.table.copies (g.D.Disks.told c.args.disks.now) (g.D.Disks.told c.write_copy.new.disks)) c.self.view_is (λ agree. (digests_wrote (g.D.Disks.told c.args.disks.now) (g.D.Disks.told c.write_copy.new.disks) c.self.inside.table c.write_copy.new.table (write_at c.args.attempt.now.node c.args.name.now c.args.bytes.now ∷ []) c.in-Ok.ensures.written agree).0)
+
+pub returns-then-not-goes_further-clause-wrote : goal.returns-then-not-goes_further-clause-wrote
+returns-then-not-goes_further-clause-wrote g c = wrote_such c.args.name.now c.args.bytes.now (g.D.Disks.told c.args.disks.now) (g.D.Disks.told c.write_copy.new.disks) c.self.inside.table c.write_copy.new.table (c.args.attempt.now.node ∷ []) c.in-Ok.ensures.written
+
+pub returns-clause-agree : goal.returns-clause-agree
+returns-clause-agree g c =
+    on_ok_weaker c.write_further.result (λ w. subst (λ (s : Seen). KeepsDigests s.kept.table.copies c.write_further.new.table.copies (g.D.Disks.told c.args.disks.now) (g.D.Disks.told c.write_further.new.disks)) c.self.view_is (λ agree. wrote_keep (g.D.Disks.told c.write_copy.new.disks) (g.D.Disks.told c.write_further.new.disks) c.write_copy.new.table c.write_further.new.table (writes_at (nodes_for (setup_in c.self.inside) c.args.attempt.now.node c.write_copy.new.table.up (holders c.args.name.now c.write_copy.new.table)) c.args.name.now c.args.bytes.now) (w c.self.inside.shape) (wrote_keep (g.D.Disks.told c.args.disks.now) (g.D.Disks.told c.write_copy.new.disks) c.self.inside.table c.write_copy.new.table (write_at c.args.attempt.now.node c.args.name.now c.args.bytes.now ∷ []) c.in-Ok.ensures.written agree))) c.write_further.ensures.written
+
+pub returns-clause-asks : goal.returns-clause-asks
+returns-clause-asks g c =
+    subst (λ (s : Seen). AsksByDigests s.kept.table.copies (g.D.Disks.told c.args.disks.now) (g.D.Disks.told c.write_further.new.disks)) c.self.view_is
+    (ask_more c.self.inside.table.copies c.write_copy.new.table.copies (g.D.Disks.told c.args.disks.now) (g.D.Disks.told c.write_copy.new.disks) (g.D.Disks.told c.write_further.new.disks) (λ agree. (digests_wrote (g.D.Disks.told c.args.disks.now) (g.D.Disks.told c.write_copy.new.disks) c.self.inside.table c.write_copy.new.table (write_at c.args.attempt.now.node c.args.name.now c.args.bytes.now ∷ []) c.in-Ok.ensures.written agree).0) (wrote_keep (g.D.Disks.told c.args.disks.now) (g.D.Disks.told c.write_copy.new.disks) c.self.inside.table c.write_copy.new.table (write_at c.args.attempt.now.node c.args.name.now c.args.bytes.now ∷ []) c.in-Ok.ensures.written)
+    (writes_ask c.write_further.result (g.D.Disks.told c.write_copy.new.disks) (g.D.Disks.told c.write_further.new.disks) c.write_copy.new.table c.write_further.new.table (writes_at (nodes_for (setup_in c.self.inside) c.args.attempt.now.node c.write_copy.new.table.up (holders c.args.name.now c.write_copy.new.table)) c.args.name.now c.args.bytes.now) (on_ok_weaker c.write_further.result (λ w. w c.self.inside.shape) c.write_further.ensures.written) (on_err_weaker c.write_further.result (λ w. w c.self.inside.shape) c.write_further.ensures.begun)))
+
+pub returns-clause-wrote : goal.returns-clause-wrote
+returns-clause-wrote g c =
+    such_more (IsWriteOf c.args.name.now c.args.bytes.now) (g.D.Disks.told c.args.disks.now) (g.D.Disks.told c.write_copy.new.disks) (g.D.Disks.told c.write_further.new.disks)
+    (wrote_such c.args.name.now c.args.bytes.now (g.D.Disks.told c.args.disks.now) (g.D.Disks.told c.write_copy.new.disks) c.self.inside.table c.write_copy.new.table (c.args.attempt.now.node ∷ []) c.in-Ok.ensures.written)
+    (writes_such c.args.name.now c.args.bytes.now (g.D.Disks.told c.write_copy.new.disks) (g.D.Disks.told c.write_further.new.disks) c.write_further.result c.write_copy.new.table c.write_further.new.table (nodes_for (setup_in c.self.inside) c.args.attempt.now.node c.write_copy.new.table.up (holders c.args.name.now c.write_copy.new.table)) (on_ok_weaker c.write_further.result (λ w. w c.self.inside.shape) c.write_further.ensures.written) (on_err_weaker c.write_further.result (λ w. w c.self.inside.shape) c.write_further.ensures.begun))
