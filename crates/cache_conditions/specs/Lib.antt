@@ -1,0 +1,5 @@
+pub mod Conditions
+pub mod Laws
+pub mod Programs
+pub mod Texts
+pub mod Worked

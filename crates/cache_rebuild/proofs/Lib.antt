@@ -1,0 +1,4 @@
+pub mod Asks
+pub mod Inputs
+pub mod LeastBlocks
+pub mod Steps

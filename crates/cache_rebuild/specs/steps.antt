@@ -1,0 +1,6 @@
+-- What the contracts of private steps say.
+pub mod Asking
+pub mod Blocks
+pub mod Files
+pub mod Needing
+pub mod Walking

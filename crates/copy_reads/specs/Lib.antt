@@ -1,0 +1,9 @@
+pub mod Books
+pub mod Faults
+pub mod Inputs
+pub mod Keeping
+pub mod Laws
+pub mod Needs
+pub mod Parts
+pub mod Readers
+pub mod Tried
