@@ -1,0 +1,4 @@
+pub mod Causes
+pub mod Fates
+pub mod States
+pub mod Worked
