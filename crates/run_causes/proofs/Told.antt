@@ -52,19 +52,19 @@ other_line (line.Wipe node) e = absurd (false≢true e)
 other_line (line.Fail task node count) e = absurd (false≢true e)
 other_line it e = record { no_miss = refl; no_wipe = refl; no_failure = λ task. refl }
 
+pub all_lines : (xs ys : List Entry) → TellNothing xs → TellNothing ys → TellNothing (xs ++ ys)
+all_lines xs ys a b = record {
+  no_miss = number_append is_struck xs ys ∙ added _ _ a.no_miss b.no_miss;
+  no_wipe = flat_map-append wiped_by xs ys ∙ ap (λ ns. ns ++ told_wiped ys) a.no_wipe ∙ b.no_wipe;
+  no_failure = λ task. number_append (fails_at task) xs ys ∙ added _ _ (a.no_failure task) (b.no_failure task);
+}
+  where
+    added : (n m : ℕ) → n ≡ 0 → m ≡ 0 → n + m ≡ 0
+    added n m x y = omega arith
+
 pub other_lines : (f : Attempt → Entry) (xs : List Attempt) → ((x : Attempt) → is_other (f x) ≡ true) → TellNothing (map f xs)
 other_lines f [] h = record { no_miss = refl; no_wipe = refl; no_failure = λ task. refl }
-other_lines f (x ∷ xs) h =
-    let one = other_line (f x) (h x) in
-    let more = other_lines f xs h in
-    record {
-      no_miss = number_append is_struck (f x ∷ []) (map f xs) ∙ added _ _ one.no_miss more.no_miss;
-      no_wipe = flat_map-append wiped_by (f x ∷ []) (map f xs) ∙ ap (λ ns. ns ++ told_wiped (map f xs)) one.no_wipe ∙ more.no_wipe;
-      no_failure = λ task. number_append (fails_at task) (f x ∷ []) (map f xs) ∙ added _ _ (one.no_failure task) (more.no_failure task);
-    }
-  where
-    added : (a b : ℕ) → a ≡ 0 → b ≡ 0 → a + b ≡ 0
-    added a b x y = omega arith
+other_lines f (x ∷ xs) h = all_lines (f x ∷ []) (map f xs) (other_line (f x) (h x)) (other_lines f xs h)
 
 -- ---- states
 

@@ -31,7 +31,7 @@ use Rattle.run_laws.specs.Refusals.{Cause, Caused, TurnsHaveCauses}
 use Rattle.run_laws.proofs.Falling.{none_run}
 
 module _ (setup : Setup) where
-  then_caused : {A B : Type 0} (plan : Plan A) (f : A → Plan B) → Caused (Cause setup) plan → ((a : A) → Caused (Cause setup) (f a)) → Caused (Cause setup) (plan >>= f)
+  pub then_caused : {A B : Type 0} (plan : Plan A) (f : A → Plan B) → Caused (Cause setup) plan → ((a : A) → Caused (Cause setup) (f a)) → Caused (Cause setup) (plan >>= f)
   then_caused (gives a) f h k = k a
   then_caused (refuses c why) f h k = h
   then_caused (does call plan) f h k = then_caused plan f h k

@@ -26,7 +26,7 @@ use Rattle.run_laws.proofs.Writes.{WritesFit, written_holds}
 
 -- ---- the state after load
 
-there_written : (node : ℕ) (name : Name) (calls : List Call) (copies : List Copy) → IsIn (Write node name) calls → holds (written calls copies) node name ≡ true
+pub there_written : (node : ℕ) (name : Name) (calls : List Call) (copies : List Copy) → IsIn (Write node name) calls → holds (written calls copies) node name ≡ true
 there_written node name [] copies i = elim i [ ]
 there_written node name (Write node' name' ∷ calls) copies (inl e) = written_holds calls (with_copy (copy name' node') copies) node name (same (holds_new (copy name' node') copies))
   where
@@ -79,11 +79,12 @@ in_blocks [] t b l = absurd (omega arith)
 in_blocks (n ∷ blocks) zero b l = omega arith
 in_blocks (n ∷ blocks) (suc t) b l = let h = in_blocks blocks t b l in omega arith
 
-block_written : (setup : Setup) (t b : ℕ) → 1 ≤ setup.schedule.copies → b < slice_index setup.shape.blocks t → IsIn (Write (node_of t b 0 setup.schedule.nodes) (Blk t b)) (block_writes setup)
-block_written setup t b l u =
-    let call = Write (node_of t b 0 setup.schedule.nodes) (Blk t b) in
-    let k = in_map (λ k. Write (node_of t b k setup.schedule.nodes) (Blk t b)) 0 (below setup.schedule.copies) (in_range 0 setup.schedule.copies 0 (omega arith) (omega arith)) in
-    let bs = in_flat (λ b. map (λ k. Write (node_of t b k setup.schedule.nodes) (Blk t b)) (below setup.schedule.copies)) b call (below (slice_index setup.shape.blocks t)) (in_range 0 (slice_index setup.shape.blocks t) b (omega arith) (omega arith)) k in
+-- each copy of a block of the shape is written
+pub block_written : (setup : Setup) (t b k : ℕ) → k < setup.schedule.copies → b < slice_index setup.shape.blocks t → IsIn (Write (node_of t b k setup.schedule.nodes) (Blk t b)) (block_writes setup)
+block_written setup t b k l u =
+    let call = Write (node_of t b k setup.schedule.nodes) (Blk t b) in
+    let ks = in_map (λ k. Write (node_of t b k setup.schedule.nodes) (Blk t b)) k (below setup.schedule.copies) (in_range 0 setup.schedule.copies k (omega arith) (omega arith)) in
+    let bs = in_flat (λ b. map (λ k. Write (node_of t b k setup.schedule.nodes) (Blk t b)) (below setup.schedule.copies)) b call (below (slice_index setup.shape.blocks t)) (in_range 0 (slice_index setup.shape.blocks t) b (omega arith) (omega arith)) ks in
     in_flat (λ t. flat_map (λ b. map (λ k. Write (node_of t b k setup.schedule.nodes) (Blk t b)) (below setup.schedule.copies)) (below (slice_index setup.shape.blocks t))) t call (below (length setup.shape.blocks)) (in_range 0 (length setup.shape.blocks) t (omega arith) (let h = in_blocks setup.shape.blocks t b u in omega arith)) bs
 
 -- a name that an up node holds is up
@@ -118,7 +119,7 @@ load_is_orderly setup fits caches l = record {
   all_up = refl;
   blocks = λ t b u.
       let node = node_of t b 0 setup.schedule.nodes in
-      held_up (loaded setup).copies (loaded setup).up node (Blk t b) (is_among node (below setup.schedule.nodes) (in_range 0 setup.schedule.nodes node (omega arith) (let h = mod-lt (t + b + 0) fits.nodes in omega arith))) (there_written node (Blk t b) (block_writes setup) [] (block_written setup t b l u));
+      held_up (loaded setup).copies (loaded setup).up node (Blk t b) (is_among node (below setup.schedule.nodes) (in_range 0 setup.schedule.nodes node (omega arith) (let h = mod-lt (t + b + 0) fits.nodes in omega arith))) (there_written node (Blk t b) (block_writes setup) [] (block_written setup t b 0 (omega arith) u));
   before = λ x p u. absurd (omega arith);
   made = λ t x e. absurd (nothing_made setup t e);
 }

@@ -1,5 +1,5 @@
-use Rattle.run_causes.proofs.Told.{loaded_told}
+use Rattle.run_causes.proofs.Runs.{states_follow_the_schedule}
 use Rattle.run_causes.proofs.states.states_follow_the_schedule.Goals as goal
 
 pub returns : goal.returns
-returns c = ?
+returns c = states_follow_the_schedule
