@@ -1,6 +1,6 @@
 -- What holds however a plan goes, by how many of its reads missed.
-use Rattle.std.proofs.Common.{◌≡◌, ℕ, suc, ◌+◌, ◌≤◌, Bool, true, false, cond, List, [], ◌∷◌, refl, sym, ap, subst, ◌∙◌, arith, length}
-use Rattle.std.specs.List.{AllByRecursion, filter}
+use Rattle.std.proofs.Common.{◌≡◌, ℕ, suc, ◌+◌, ◌≤◌, Bool, true, false, cond, List, [], ◌∷◌, ◌++◌, refl, sym, ap, subst, ◌∙◌, map, arith, length}
+use Rattle.std.specs.List.{AllByRecursion, filter, flat_map}
 use Rattle.std.proofs.lemmas.Bool.{false≢true}
 use Rattle.run_model.specs.Lists.{number_of}
 use Rattle.run_model.specs.Plans.{Call, Leaves, Made, Plan, Read, Remove, Wipe, Write, asks, do_all, does, gives, refuses, ◌>>=◌}
@@ -10,6 +10,18 @@ use Rattle.run_causes.specs.States.{if_read, is_missed}
 -- the call is no read
 abbrev pub IsNoRead : Call → Type 0
 IsNoRead call = if_read call true ≡ false
+
+pub all_no_reads : (xs ys : List Call) → AllByRecursion IsNoRead xs → AllByRecursion IsNoRead ys → AllByRecursion IsNoRead (xs ++ ys)
+all_no_reads [] ys a b = b
+all_no_reads (x ∷ xs) ys a b = (a.0, all_no_reads xs ys a.1 b)
+
+pub no_reads : {A : Type 0} (f : A → Call) (xs : List A) → ((x : A) → IsNoRead (f x)) → AllByRecursion IsNoRead (map f xs)
+no_reads f [] h = tt
+no_reads f (x ∷ xs) h = (h x, no_reads f xs h)
+
+pub each_no_reads : {A : Type 0} (f : A → List Call) (xs : List A) → ((x : A) → AllByRecursion IsNoRead (f x)) → AllByRecursion IsNoRead (flat_map f xs)
+each_no_reads f [] h = tt
+each_no_reads f (x ∷ xs) h = all_no_reads (f x) (flat_map f xs) (h x) (each_no_reads f xs h)
 
 -- whichever reads miss, once so many have: this holds of what the plan gives, by how many have missed then, and that of the
 -- cluster where the run is refused
@@ -31,13 +43,14 @@ along_do P Q n (call ∷ calls) plan w h = (w.0, along_do P Q n calls plan w.1 h
 
 -- ---- what is left of a plan after calls
 
-not_missed : (call : Call) (missed : Bool) → IsNoRead call → if_read call missed ≡ false
+-- a call that is no read is none that missed
+pub not_missed : (call : Call) (missed : Bool) → IsNoRead call → if_read call missed ≡ false
 not_missed (Read node name) missed e = absurd (false≢true (sym e))
 not_missed (Wipe node) missed e = refl
 not_missed (Write node name) missed e = refl
 not_missed (Remove node name) missed e = refl
 
-one_made : (m : Made) (made : List Made) (v : Bool) → is_missed m ≡ v → number_of is_missed (m ∷ made) ≡ cond v (suc (number_of is_missed made)) (number_of is_missed made)
+pub one_made : (m : Made) (made : List Made) (v : Bool) → is_missed m ≡ v → number_of is_missed (m ∷ made) ≡ cond v (suc (number_of is_missed made)) (number_of is_missed made)
 one_made m made true e = ap (λ v. length (cond v (m ∷ filter is_missed made) (filter is_missed made))) e
 one_made m made false e = ap (λ v. length (cond v (m ∷ filter is_missed made) (filter is_missed made))) e
 

@@ -1,4 +1,5 @@
 pub mod Along
+pub mod BehindLoad
 pub mod Fated
 pub mod Fewer
 pub mod Missing

@@ -1,5 +1,5 @@
 -- The first missing block is one of the shape, and no up node holds it.
-use Rattle.std.proofs.Common.{◌≡◌, ◌⊎◌, inl, inr, ℕ, ◌<◌, true, false, ◌&&◌, ◌||◌, cond, List, [], ◌∷◌, Option, None, Some, refl, sym, ap, subst, ◌∙◌, ◌==◌, nat_lt, nat_le}
+use Rattle.std.proofs.Common.{◌≡◌, ◌⊎◌, inl, inr, ℕ, ◌<◌, true, false, ◌&&◌, ◌||◌, cond, List, [], ◌∷◌, Option, None, Some, refl, sym, subst, ◌∙◌, ◌==◌, nat_lt, nat_le}
 use Rattle.std.specs.Prelude.{slice_index}
 use Rattle.std.specs.List.{flat_map}
 use Rattle.node_names.specs.declared.name.Name.{Name}
@@ -50,11 +50,15 @@ block_missing view goal block e =
     go task (Blk t b) x y (inl s) =
         let f = missing_is view task (Blk t b) y in
         let g = missing_from view task (site view task) (Blk t b) y in
-        let not_held = or_false (is_up view.copies view.up (Blk t b) || holds view.copies g.0 (Blk t b)) (holds view.copies g.0 (Mic t b)) g.1 in
-        (t, b, s, record {
-          in_shape = block_needed view.shape task f.0 t b (wanted_are_tasks view goal task x).0 f.1 f.2;
-          not_up = (or_false (is_up view.copies view.up (Blk t b)) (holds view.copies g.0 (Blk t b)) not_held.0).0;
-        })
+        let not_held = or_false (is_up view.copies view.up (Blk t b) || holds view.copies g.0 (Blk t b)) (holds view.copies g.0 (Mic t b)) g.1 in (
+          t,
+          b,
+          s,
+          record {
+            in_shape = block_needed view.shape task f.0 t b (wanted_are_tasks view goal task x).0 f.1 f.2;
+            not_up = (or_false (is_up view.copies view.up (Blk t b)) (holds view.copies g.0 (Blk t b)) not_held.0).0;
+          },
+        )
     go task (Blk t b) x y (inr z) = elim z [ ]
     go task (Spill i j s q) x y z = elim z [ ]
     go task (Out i j p) x y z = elim z [ ]

@@ -1,5 +1,5 @@
 -- What each refusal of a run shows of its schedule, and when there is none.
-use Rattle.std.proofs.Common.{◌≡◌, ◌⊎◌, inl, inr, ℕ, suc, ◌+◌, ◌≤◌, ◌<◌, Bool, true, false, ◌&&◌, not, List, [], ◌∷◌, ◌++◌, Option, refl, sym, ap, subst, ◌∙◌, map, arith, length, nat_lt, append_assoc}
+use Rattle.std.proofs.Common.{◌≡◌, inl, inr, ℕ, ◌+◌, ◌≤◌, ◌<◌, Bool, true, false, ◌&&◌, not, List, [], ◌∷◌, ◌++◌, Option, refl, sym, ap, subst, ◌∙◌, arith, length}
 use Rattle.std.specs.List.{filter}
 use Rattle.std.proofs.Math.Nat.{mod-lt}
 use Rattle.std.proofs.lemmas.Bool.{false≢true, lt-ltb}
@@ -9,7 +9,6 @@ use Rattle.node_names.specs.declared.name.Name.{Name}
 use Rattle.node_names.specs.declared.name.Name.TheVariants.{Blk, Mic, Out, Ric, Roc, Spill}
 use Rattle.node_names.specs.declared.task.Task.{Task}
 use Rattle.replica_table.specs.Sets.{among}
-use Rattle.schedule_text.specs.declared.schedule.Event.{Event}
 use Rattle.counter_report.specs.declared.journal.EndWord.{EndWord}
 use Rattle.counter_report.specs.declared.journal.Entry.{Entry}
 use Rattle.counter_report.specs.declared.journal.Entry.TheVariants as line
@@ -21,18 +20,17 @@ use Rattle.run_model.specs.Runs.{block_writes, loaded, node_of, turns}
 use Rattle.run_model.specs.Start.{goal_of}
 use Rattle.run_model.specs.State.{PlainCluster, Setup}
 use Rattle.run_laws.specs.Blocks.{BlockKept}
-use Rattle.run_laws.specs.Refusals.{Cause}
 use Rattle.run_laws.specs.States.{Fits}
 use Rattle.run_laws.specs.Telling.{Failures, fails_at}
 use Rattle.run_laws.proofs.BlockCopies.{block_copies_keep}
 use Rattle.run_laws.proofs.Counting.{number_append}
 use Rattle.run_laws.proofs.Lossless.{block_written, held_up, there_written}
-use Rattle.run_laws.proofs.Members.{from_below, from_filter, from_map, in_filter, in_flat, in_map, in_range, and_true, not_true}
+use Rattle.run_laws.proofs.Members.{from_below, from_filter, from_map, in_filter, in_flat, and_true, not_true}
 use Rattle.run_laws.proofs.Numbers.{in_among, is_among}
 use Rattle.run_laws.proofs.ToldByJournals.{failures_are_told}
 use Rattle.run_causes.specs.Causes.{AllDown, BlockGone, CopiesGone, FailedTooOften, IsGone, LosesLittle, NeverRefused, RefusalsShow, Shown, block_nodes}
-use Rattle.run_causes.specs.Fates.{Fates, fates, is_fail, is_node_up, is_whole, lost_nodes}
-use Rattle.run_causes.specs.States.{FollowsSchedule, is_missed, told_wiped, wiped_by}
+use Rattle.run_causes.specs.Fates.{Fates, fates, is_fail, is_whole, lost_nodes}
+use Rattle.run_causes.specs.States.{FollowsSchedule, wiped_by}
 use Rattle.run_causes.proofs.Fated.{AllGone, gone_is_lost}
 use Rattle.run_causes.proofs.Fewer.{Differ, block_nodes_differ, differ_below, differ_filter, no_more}
 use Rattle.run_causes.proofs.Missing.{NotThere, block_missing}
@@ -119,9 +117,9 @@ module _ (setup : Setup) (fits : Fits setup) (decisions : ℕ → Option EndWord
       let f = states_follow setup fits decisions n made (refuses c (BlockLost block)) l in
       let N = setup.schedule.nodes in
       subst (BlockGone setup c) (sym m.2) (copies_gone setup c f why.0 m.0 m.1 spread m.3 (λ k x.
-          copy_gone setup c f why.0 m.0 m.1 (node_of m.0 m.1 k N) (mod-lt (m.0 + m.1 + k) fits.nodes) m.3
-          (refused_keeps setup decisions (BlockKept m.0 m.1 (node_of m.0 m.1 k N)) (λ decision d p. block_copies_keep setup decision m.0 m.1 (node_of m.0 m.1 k N) d p) n made c (BlockLost block)
-          (inl (there_written (node_of m.0 m.1 k N) (Blk m.0 m.1) (block_writes setup) [] (block_written setup m.0 m.1 k x m.3.in_shape))) l)))
+      copy_gone setup c f why.0 m.0 m.1 (node_of m.0 m.1 k N) (mod-lt (m.0 + m.1 + k) fits.nodes) m.3
+      (refused_keeps setup decisions (BlockKept m.0 m.1 (node_of m.0 m.1 k N)) (λ decision d p. block_copies_keep setup decision m.0 m.1 (node_of m.0 m.1 k N) d p) n made c (BlockLost block)
+      (inl (there_written (node_of m.0 m.1 k N) (Blk m.0 m.1) (block_writes setup) [] (block_written setup m.0 m.1 k x m.3.in_shape))) l)))
 
   pub shown : (why : Refusal) → setup.schedule.copies ≤ setup.schedule.nodes → Leaves (turns n setup decisions (loaded setup)) made (refuses c why) → Shown setup c why
   shown (TaskFailed task) spread l =
@@ -166,8 +164,8 @@ module _ (setup : Setup) (little : LosesLittle setup) where
   some_copy : (c : PlainCluster) (t b : ℕ) → misses c ≡ 0 → CopiesGone setup c t b → ⊥
   some_copy c t b none g =
       let few = few_nodes (block_nodes setup t b) (block_nodes_differ setup t b little.spread) (λ n i.
-          let k = from_map (λ k. node_of t b k setup.schedule.nodes) n (below setup.schedule.copies) i in
-          copy_lost c t b n none (subst (IsGone (fates setup.schedule.events) c.journal t b) (sym k.2) (g.gone k.0 (from_below setup.schedule.copies k.0 k.1)))) in
+      let k = from_map (λ k. node_of t b k setup.schedule.nodes) n (below setup.schedule.copies) i in
+      copy_lost c t b n none (subst (IsGone (fates setup.schedule.events) c.journal t b) (sym k.2) (g.gone k.0 (from_below setup.schedule.copies k.0 k.1)))) in
       let all = length-map-range_with_len (λ k. node_of t b k setup.schedule.nodes) 0 setup.schedule.copies in
       omega arith
 

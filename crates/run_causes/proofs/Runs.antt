@@ -1,5 +1,5 @@
 -- What holds of each state of a run: by its schedule, by the reads that missed, and by what each turn keeps.
-use Rattle.std.proofs.Common.{◌≡◌, ℕ, zero, suc, ◌≤◌, List, Option, arith}
+use Rattle.std.proofs.Common.{◌≡◌, ℕ, zero, suc, List, Option, arith}
 use Rattle.counter_report.specs.declared.journal.EndWord.{EndWord}
 use Rattle.run_model.specs.Lists.{number_of}
 use Rattle.run_model.specs.PlanLaws.{Always}

@@ -1,6 +1,5 @@
 -- What a state of a run has of the events that are spent, and of the reads that missed, one step after another.
-use Rattle.std.proofs.Common.{append_assoc, ◌≡◌, ℕ, suc, ◌+◌, ◌≤◌, ◌<◌, Bool, true, false, ◌&&◌, ◌||◌, not, cond, List, [], ◌∷◌, ◌++◌, inl, inr, refl, sym, ap, subst, ◌∙◌, map, arith, length, ◌==◌, nat_lt, nat_le}
-use Rattle.std.specs.List.{filter, flat_map}
+use Rattle.std.proofs.Common.{append_assoc, ◌≡◌, ℕ, suc, ◌+◌, ◌≤◌, ◌<◌, Bool, true, false, ◌&&◌, ◌||◌, not, cond, List, [], ◌∷◌, ◌++◌, refl, sym, ap, subst, ◌∙◌, map, arith, ◌==◌, nat_lt, nat_le}
 use Rattle.std.specs.Cmp.{nat_eq_equiv}
 use Rattle.std.specs.Ordering.{nat_cmp}
 use Rattle.std.proofs.lemmas.Bool.{eqb-true, false_from_ne_true, false≢true, lt-ltb, ltb-false, ltb-true}
@@ -21,8 +20,6 @@ use Rattle.run_model.specs.Reading.{is_struck}
 use Rattle.run_model.specs.Runs.{loaded}
 use Rattle.run_model.specs.declared.attempt.Attempt.{Attempt}
 use Rattle.run_model.specs.State.{PlainCluster, Setup}
-use Rattle.run_model.specs.Tasks.{is_task}
-use Rattle.run_laws.specs.States.{Fits}
 use Rattle.run_laws.specs.Telling.{fails_at}
 use Rattle.run_laws.proofs.Counting.{number_append, number_bound}
 use Rattle.run_laws.proofs.Members.{from_below, in_range}

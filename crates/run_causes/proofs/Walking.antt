@@ -1,5 +1,5 @@
 -- Each step of a run keeps what a state has of its schedule, and each miss is counted.
-use Rattle.std.proofs.Common.{◌≡◌, inl, ℕ, zero, suc, ◌*◌, ◌+◌, ◌≤◌, ◌<◌, Bool, true, false, not, List, [], ◌∷◌, ◌++◌, Option, None, Some, refl, sym, ap, subst, ◌∙◌, map, arith, ◌==◌, nat_lt, nat_le}
+use Rattle.std.proofs.Common.{◌≡◌, inl, ℕ, zero, suc, ◌*◌, ◌+◌, ◌≤◌, ◌<◌, Bool, true, false, not, List, [], ◌∷◌, ◌++◌, Option, None, Some, refl, sym, subst, map, arith, ◌==◌, nat_lt, nat_le}
 use Rattle.std.specs.Prelude.{if◌then◌else◌}
 use Rattle.std.specs.List.{AllByRecursion, filter, flat_map}
 use Rattle.std.specs.Ordering.{nat_cmp}
@@ -17,16 +17,15 @@ use Rattle.counter_report.specs.declared.journal.Entry.{Entry}
 use Rattle.counter_report.specs.declared.journal.Entry.TheVariants as line
 use Rattle.counter_report.specs.declared.journal.EventWord.{EventWord}
 use Rattle.counter_report.specs.declared.journal.EventWord.TheVariants as word
-use Rattle.run_model.specs.Acts.{act, act_on, done_by, ended, fail, failed, failed_by, failures_of, finish, happens, last_act, lost, oldest, oldest_on, returned, round_act, skipped, spend, stuck, wiped}
+use Rattle.run_model.specs.Acts.{act, act_on, done_by, ended, failed, failed_by, failures_of, finish, last_act, lost, oldest, oldest_on, returned, round_act, skipped, spend, stuck, wiped}
 use Rattle.run_model.specs.Advance.{Advanced, advance, advance_if, after_part, decide, finished, goes_on, is_decided, next_round, part_tries, pass, read_parts}
 use Rattle.run_model.specs.Attempts.{commit, commit_line, committed, further_calls, further_nodes, made_by, own_calls, own_writes, writes, writes_to, written}
 use Rattle.run_model.specs.Lists.{IsIn}
 use Rattle.run_model.specs.Needs.{Input, inputs, view_of}
-use Rattle.run_model.specs.Plans.{Call, Plan, Remove, TaskFailed, Write, gives, refuses, ◌>>=◌}
-use Rattle.run_model.specs.Plans as plan
-use Rattle.run_model.specs.Reading.{ReadSoFar, Reading, Tried, Try, after_cache, after_read, after_tries, misses, nothing_read, own_try, read_files, read_first, read_input, read_inputs, read_need, reading, starved, strike, tries_for, unless_last, with_unread}
+use Rattle.run_model.specs.Plans.{Call, Plan, Remove, TaskFailed, Write, gives, refuses}
+use Rattle.run_model.specs.Reading.{ReadSoFar, Reading, Tried, Try, after_cache, after_tries, misses, nothing_read, own_try, read_files, read_first, read_input, read_inputs, read_need, reading, starved, strike, tries_for, unless_last, with_unread}
 use Rattle.run_model.specs.Removals.{clear, removals}
-use Rattle.run_model.specs.Runs.{loaded, state_of, turns, unless_ended}
+use Rattle.run_model.specs.Runs.{state_of, turns, unless_ended}
 use Rattle.run_model.specs.Sites.{site}
 use Rattle.run_model.specs.Start.{first_ready, goal_of, start, start_first, start_one, start_some, started}
 use Rattle.run_model.specs.declared.attempt.Attempt.{Attempt}
@@ -37,22 +36,8 @@ use Rattle.run_model.specs.Turns.{Turned, acted, ends, go_on, turn}
 use Rattle.run_model.specs.Wanted.{first_missing_block}
 use Rattle.run_laws.specs.States.{Fits}
 use Rattle.run_laws.proofs.Members.{in_right}
-use Rattle.run_causes.proofs.Along.{Along, IsNoRead, along_do, along_then}
-use Rattle.run_causes.proofs.Told.{Told, TellNothing, all_lines, back_skipped, back_told, fail_told, kept_told, lines_told, loaded_told, lose_skipped, lose_told, miss_told, other_line, other_lines, passed_told, wipe_skipped, wipe_told}
-
--- ---- calls that are no reads
-
-no_reads : {A : Type 0} (f : A → Call) (xs : List A) → ((x : A) → IsNoRead (f x)) → AllByRecursion IsNoRead (map f xs)
-no_reads f [] h = tt
-no_reads f (x ∷ xs) h = (h x, no_reads f xs h)
-
-both : (xs ys : List Call) → AllByRecursion IsNoRead xs → AllByRecursion IsNoRead ys → AllByRecursion IsNoRead (xs ++ ys)
-both [] ys a b = b
-both (x ∷ xs) ys a b = (a.0, both xs ys a.1 b)
-
-each : {A : Type 0} (f : A → List Call) (xs : List A) → ((x : A) → AllByRecursion IsNoRead (f x)) → AllByRecursion IsNoRead (flat_map f xs)
-each f [] h = tt
-each f (x ∷ xs) h = both (f x) (flat_map f xs) (h x) (each f xs h)
+use Rattle.run_causes.proofs.Along.{Along, IsNoRead, all_no_reads, along_do, along_then, each_no_reads, no_reads}
+use Rattle.run_causes.proofs.Told.{Told, TellNothing, all_lines, back_skipped, back_told, fail_told, kept_told, lines_told, lose_skipped, lose_told, miss_told, other_line, other_lines, passed_told, wipe_skipped, wipe_told}
 
 module _ (setup : Setup) where
   -- ---- states that go on, and those in which a run is refused
@@ -116,7 +101,7 @@ module _ (setup : Setup) where
   -- ---- attempts
 
   writes_no_reads : (a : Attempt) (r : Reading) → AllByRecursion IsNoRead (writes setup a r)
-  writes_no_reads a r = both (own_calls setup a r) (further_calls setup a r) (no_reads (Write a.node) (own_writes setup a.task r) (λ name. refl)) (each (writes_to (nodes_for_copies a r)) (made_by a.task) (λ name. no_reads (λ n. Write n name) (nodes_for_copies a r) (λ n. refl)))
+  writes_no_reads a r = all_no_reads (own_calls setup a r) (further_calls setup a r) (no_reads (Write a.node) (own_writes setup a.task r) (λ name. refl)) (each_no_reads (writes_to (nodes_for_copies a r)) (made_by a.task) (λ name. no_reads (λ n. Write n name) (nodes_for_copies a r) (λ n. refl)))
     where
       nodes_for_copies : Attempt → Reading → List ℕ
       nodes_for_copies a r = further_nodes setup a.task a.node r.cluster.up (written (own_calls setup a r) r.cluster.copies)

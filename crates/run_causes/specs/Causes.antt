@@ -1,5 +1,5 @@
 -- What the refusal of a run shows of its schedule alone, and when a run is never refused.
-use Rattle.std.specs.Prelude.{◌≡◌, ◌⊎◌, ℕ, ◌≤◌, ◌<◌, List, [], ◌∷◌, Option, length, map, slice_index}
+use Rattle.std.specs.Prelude.{◌≡◌, ◌⊎◌, ℕ, ◌≤◌, ◌<◌, List, [], Option, length, map, slice_index}
 use Rattle.node_names.specs.declared.name.Name.{Name}
 use Rattle.node_names.specs.declared.name.Name.TheVariants.{Blk, Mic, Out, Ric, Roc, Spill}
 use Rattle.node_names.specs.declared.task.Task.{Task}

@@ -10,7 +10,7 @@ use Rattle.counter_report.specs.declared.journal.Entry.TheVariants as line
 use Rattle.run_model.specs.Lists.{number_of}
 use Rattle.run_model.specs.Plans.{Call, Leaves, Made, Plan, Read, Remove, Wipe, Write, asks, does, gives, refuses}
 use Rattle.run_model.specs.Reading.{misses}
-use Rattle.run_model.specs.Runs.{loaded, state_of, turns}
+use Rattle.run_model.specs.Runs.{loaded, run, state_of, turns}
 use Rattle.run_model.specs.State.{PlainCluster, Setup}
 use Rattle.run_model.specs.Turns.{Turned}
 use Rattle.run_laws.specs.States.{Fits}
@@ -73,3 +73,27 @@ abbrev pub MissesAreStruck : Type 0
 MissesAreStruck =
     (setup : Setup) (decisions : ℕ → Option EndWord) (n : ℕ) (made : List Made) (rest : Plan Turned)
     → Fits setup → Leaves (turns n setup decisions (loaded setup)) made rest → MissesAreTold made rest
+
+-- ---- load
+
+-- turns acted, finished the run, or were refused
+abbrev pub HasOutcome : Plan Turned → Type 0
+HasOutcome (gives turned) = Unit {0}
+HasOutcome (refuses c why) = Unit {0}
+HasOutcome (does call plan) = ⊥
+HasOutcome (asks node name next) = ⊥
+
+-- the calls are those of load, and then those of turns from the state after load, which leave the same; just the reads of those
+-- turns missed
+pub record AreBehindLoad (setup : Setup) (decisions : ℕ → Option EndWord) (n : ℕ) (made : List Made) (rest : Plan Turned) : Type 0 where
+  pub of_load : List Made
+  pub of_turns : List Made
+  pub both : made ≡ of_load ++ of_turns
+  pub leaves : Leaves (turns n setup decisions (loaded setup)) of_turns rest
+  pub missed : number_of is_missed made ≡ number_of is_missed of_turns
+
+-- so are the calls of each run that has an outcome
+abbrev pub TurnsAreBehindLoad : Type 0
+TurnsAreBehindLoad =
+    (setup : Setup) (decisions : ℕ → Option EndWord) (n : ℕ) (made : List Made) (rest : Plan Turned)
+    → HasOutcome rest → Leaves (run n setup decisions) made rest → AreBehindLoad setup decisions n made rest
