@@ -2,8 +2,8 @@
 use Rattle.std.specs.Prelude.{ℕ, Bool, cond, List, [], ◌∷◌, ◌++◌, codes, decimal}
 use Rattle.std.specs.List.{flat_map, join_with_byte}
 use Rattle.cache_conditions.specs.declared.verdict.SourceVerdict.{SourceVerdict}
-use Rattle.cache_conditions.specs.declared.verdict.Verdict.{Verdict}
-use Rattle.cache_conditions.specs.declared.verdict.Verdict.TheVariants.{Applies, NotInvariant, OneRoundOnly, UsesRound, PartitionUsesRound, EmitsOtherKey, NotAsked}
+use Rattle.loop_program.specs.declared.verdict.Verdict.{Verdict}
+use Rattle.loop_program.specs.declared.verdict.Verdict.TheVariants.{Applies, NotInvariant, OneRoundOnly, UsesRound, PartitionUsesRound, EmitsOtherKey, NotAsked}
 use Rattle.cache_conditions.specs.declared.verdict.Verdicts.{Verdicts}
 
 -- the name of the cache where it is had, and else the word that refuses it

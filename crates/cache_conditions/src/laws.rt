@@ -1,4 +1,4 @@
-ghost use Rattle.cache_conditions.specs.Laws.{CachedProgramsKeepTheRules, CachedSourcesStayTheSame, LocalDistancesMakeTheDistance, MappedTablesStayTheSame};
+ghost use Rattle.cache_conditions.specs.Laws.{CachedSourcesStayTheSame, LocalDistancesMakeTheDistance, MappedTablesStayTheSame};
 ghost use Rattle.cache_conditions.specs.Worked.{WorkedOrders, WorkedPrograms, WorkedWords};
 
 /// What a cache that is had keeps is what would be made anew in a later round. docs/LANGUAGE.md, "Caches".
@@ -6,11 +6,6 @@ pub fn caches_keep_what_would_be_made()
     ensures reducer_input { CachedSourcesStayTheSame }
     ensures mapper_input { MappedTablesStayTheSame }
     ensures reducer_output { LocalDistancesMakeTheDistance }
-{}
-
-/// An accepted program whose shape has the caches of its verdicts keeps all rules of accepted programs.
-pub fn cached_programs_keep_the_rules()
-    ensures { CachedProgramsKeepTheRules }
 {}
 
 /// The definitions give for programs what was worked out by hand.

@@ -7,6 +7,7 @@ mod text;
 mod verdict;
 
 pub use judging::conditions;
-pub use laws::{cached_programs_keep_the_rules, caches_keep_what_would_be_made, worked_programs};
+pub use laws::{caches_keep_what_would_be_made, worked_programs};
+pub use loop_program::Verdict;
 pub use text::check_text;
-pub use verdict::{SourceVerdict, SourceVerdicts, Verdict, Verdicts};
+pub use verdict::{SourceVerdict, SourceVerdicts, Verdicts};

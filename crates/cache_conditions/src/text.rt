@@ -2,8 +2,9 @@ ghost use Rattle.std.specs.Prelude.{◌≡◌, ◌∷◌, [], ◌++◌, IfOk, On
 ghost use Rattle.cache_conditions.specs.Texts as spec;
 ghost use Rattle.cache_conditions.specs.Texts.{line_of, source_words, state_words};
 
-use crate::verdict::{SourceVerdict, Verdict, Verdicts};
+use crate::verdict::{SourceVerdict, Verdicts};
 use hal_base::{Memory, append_number};
+use loop_program::Verdict;
 use std::alloc::Global;
 
 /// The text of verdicts: a line for each source, `step J source S INPUT MAPPER`, and one for the state,

@@ -1,8 +1,10 @@
 mod ByNumber
+mod CachedShapes
 mod Collecting
 mod KeptLimits
 mod KeptRules
 mod Texts
 pub mod Chains
+pub mod FlaggedShapes
 pub mod KeptSchemas
-pub mod NoCaches
+pub mod Verdicts

@@ -1,3 +1,5 @@
+pub mod Caches
+pub mod Flags
 pub mod Found
 pub mod Limits
 pub mod Places

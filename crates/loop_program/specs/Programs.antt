@@ -19,6 +19,7 @@ use Rattle.loop_program.specs.declared.places.NamedStep.{NamedStep}
 use Rattle.loop_program.specs.declared.places.Places.{Places}
 use Rattle.loop_program.specs.declared.typing.TypedSketch.{TypedSketch}
 use Rattle.type_checker.specs.Checked.{◌>>=◌, ◌>>◌}
+use Rattle.loop_program.specs.Caches.{cached}
 use Rattle.loop_program.specs.Found.{Found, demand, each, or_wrong}
 use Rattle.loop_program.specs.Limits.{limits}
 use Rattle.loop_program.specs.Places.{count_of, places}
@@ -51,9 +52,9 @@ step_uses step = record { maps = map (λ (source : NamedSource). source.map.what
 abbrev pub uses_of : Places → Uses
 uses_of found = record { steps = map step_uses found.steps; distance = found.distance.what }
 
--- the shape, without caches; its start is the table of this number
-abbrev pub shape_of : TypedSketch → ℕ → List Schema → List Step → Shape
-shape_of sketch start tables steps = record {
+-- the shape of these steps; its start is the table of this number, and its state has the reducer output cache or not
+abbrev pub shape_of : TypedSketch → ℕ → List Schema → List Step → Bool → Shape
+shape_of sketch start tables steps output = record {
   parts = count_of sketch.parts.value;
   rounds = count_of sketch.rounds.value;
   exact = is_exact sketch.stop;
@@ -62,15 +63,15 @@ shape_of sketch start tables steps = record {
   tables = tables;
   blocks = [];
   steps = steps;
-  reducer_output = false;
+  reducer_output = output;
 }
 
--- the program of a sketch, of what its names stand for, and of its schemas
+-- the program of a sketch, of what its names stand for, and of its schemas, without caches
 abbrev pub whole : TypedSketch → Places → List Schema → List Step → Whole
 whole sketch found tables steps = record {
   functions = sketch.functions;
   uses = uses_of found;
-  shape = shape_of sketch found.start tables steps;
+  shape = shape_of sketch found.start tables steps false;
   names = map (λ (table : TableSketch). table.name.text) sketch.tables;
   files = map (λ (table : TableSketch). table.file) sketch.tables;
   asked = sketch.asked;
@@ -85,14 +86,14 @@ schemas sketch found tables = do
   demand (distance_takes sketch.functions found.distance.what state) found.distance.line SchemaMismatch
   Ok steps
 
--- a typed program: its limits, then its names, then its schemas
+-- a typed program: its limits, then its names, then its schemas; it has the caches that no word refuses
 abbrev pub accepted : TypedSketch → Found Whole
 accepted sketch = do
   limits sketch
   found ← places sketch
   tables ← each table_schema sketch.tables
   steps ← schemas sketch found tables
-  Ok (whole sketch found tables steps)
+  Ok (cached (whole sketch found tables steps))
 
 -- ---- texts
 

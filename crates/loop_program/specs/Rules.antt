@@ -14,6 +14,7 @@ use Rattle.type_checker.specs.Functions.{AreTyped}
 use Rattle.type_checker.specs.declared.uses.Use.{Use}
 use Rattle.type_checker.specs.declared.uses.Use.TheVariants.{Default}
 use Rattle.type_checker.specs.declared.uses.Uses.{Uses}
+use Rattle.loop_program.specs.Caches.{HasItsCaches}
 use Rattle.loop_program.specs.Limits.{few, function_line, function_within}
 use Rattle.loop_program.specs.Schemas.{distance_takes, map_makes, partition_takes, reduce_makes}
 use Rattle.loop_program.specs.Whole.{Whole}
@@ -54,6 +55,8 @@ pub record KeepsRules (program : Whole) : Type 0 where
   pub shape : IsWellFormed program.shape
   -- the functions that it uses fit its shape
   pub fits : UsesFit program.functions program.uses program.shape
+  -- it has the caches that no word refuses
+  pub caches : HasItsCaches program
   -- each table has a name
   pub names : length program.names ≡ length program.shape.tables
   -- and a file

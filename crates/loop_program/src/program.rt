@@ -9,7 +9,8 @@ use type_checker::{Typed, Uses};
 /// Names, or names of files.
 pub type Names = Items<Text>;
 
-/// A program in which no fault is found. The shape has no block counts before `with_blocks`, and no caches yet.
+/// A program in which no fault is found. The shape has no block counts before `with_blocks`; its sources and its state have
+/// the caches that no word refuses.
 /// docs/LANGUAGE.md, "Programs".
 #[derive(Drop)]
 pub struct Program {

@@ -1,13 +1,17 @@
+ghost use Rattle.std.specs.List.{AllByRecursion};
 ghost use Rattle.std.specs.Prelude.{◌≡◌, ◌≤◌, IfErr, IfOk, length, map};
+ghost use Rattle.hal_base.specs.Shapes.{HasFewSources};
 ghost use Rattle.program_sketch.specs.declared.sketch.TableSketch.{TableSketch as Written};
 ghost use Rattle.function_language.specs.Spelled.{CanBeSpelled};
 ghost use Rattle.type_checker.specs.Functions.{AreTyped};
+ghost use Rattle.loop_program.specs.Caches.{cached};
 ghost use Rattle.loop_program.specs.Programs as spec;
 ghost use Rattle.loop_program.specs.Programs.{IsJustProgram, IsRefusedBy};
 ghost use Rattle.loop_program.specs.Rules.{KeepsRules};
 ghost use Rattle.loop_program.specs.Schemas as schemas;
 ghost use Rattle.loop_program.specs.steps.Tells.{Tells, TellsParts, with_parts};
 
+use crate::caches::{is_had, output_verdict, steps_with_caches};
 use crate::limits::limits;
 use crate::places::{NamedStep, Places, count_of, find_places};
 use crate::program::{Names, Program};
@@ -20,7 +24,7 @@ use type_checker::{UseMaps, UseStep, UseSteps, Uses};
 
 /// The program whose text this is. The text is refused for the first of six passes that finds a fault: its
 /// length, its syntax, its names and kinds, its limits, the names in its steps, and the schemas of its steps.
-/// docs/LANGUAGE.md, "What is refused".
+/// docs/LANGUAGE.md, "What is refused". Its shape has the caches that no word refuses: docs/LANGUAGE.md, "Caches".
 pub fn read_program(alloc: Global, text: &[u8]) -> Result<Program, ProgramFault>
     ensures read { IfOk result (IsJustProgram text.now) }
     ensures kept { IfOk result KeepsRules }
@@ -114,7 +118,7 @@ fn last_line(steps: &[NamedStep]) -> u64
     }
 }
 
-/// The parts of a program with these places and schemas.
+/// The parts of a program with these places and schemas, and with its caches.
 fn parts_of(
     alloc: Global,
     sketch: &TypedSketch,
@@ -122,22 +126,34 @@ fn parts_of(
     tables: Schemas,
     steps: Steps,
 ) -> Result<Parts, Memory>
-    ensures { IfOk result (λ parts. with_parts sketch.now parts ≡ spec.whole sketch.now found.now tables steps) }
+    requires few_steps { length steps ≤ 8 }
+    requires few_sources { AllByRecursion HasFewSources steps }
+    ensures { IfOk result (λ parts. with_parts sketch.now parts ≡ cached (spec.whole sketch.now found.now tables steps)) }
 {
     let names = names_of(alloc, sketch.tables.as_slice())?;
     let files = files_of(alloc, sketch.tables.as_slice())?;
     let uses = uses_of(alloc, found)?;
+    let functions = &sketch.functions;
+    let output = output_verdict(functions, &uses, sketch.asked, steps.len() as u32);
+    let steps = steps_with_caches(alloc, functions, &uses, sketch.asked, steps)?;
     Ok(Parts {
         uses,
-        shape: shape_of(alloc, sketch, found.start, tables, steps),
+        shape: shape_of(alloc, sketch, found.start, tables, steps, is_had(output)),
         names,
         files,
     })
 }
 
-/// The shape of a program, without caches. Its start is the table of this number.
-fn shape_of(alloc: Global, sketch: &TypedSketch, start: u32, tables: Schemas, steps: Steps) -> Shape
-    ensures { result ≡ spec.shape_of sketch.now start tables steps }
+/// The shape of these steps. Its start is the table of this number, and its state has the reducer output cache or not.
+fn shape_of(
+    alloc: Global,
+    sketch: &TypedSketch,
+    start: u32,
+    tables: Schemas,
+    steps: Steps,
+    output: bool,
+) -> Shape
+    ensures { result ≡ spec.shape_of sketch.now start tables steps output }
 {
     Shape {
         parts: count_of(sketch.parts.value),
@@ -148,7 +164,7 @@ fn shape_of(alloc: Global, sketch: &TypedSketch, start: u32, tables: Schemas, st
         tables,
         blocks: Counts::new(alloc),
         steps,
-        reducer_output: false,
+        reducer_output: output,
     }
 }
 
