@@ -1,9 +1,12 @@
-pub mod Blocked
+pub mod CheckLaws
+pub mod CheckOutcomes
+pub mod ClearedShapes
 pub mod CommandLaws
 pub mod Outcomes
 pub mod OutputLaws
 pub mod Replaying
 pub mod RunLaws
+pub mod SameChains
 pub mod Schedules
 pub mod Stopping
 pub mod Tables

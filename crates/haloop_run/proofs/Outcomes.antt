@@ -98,7 +98,7 @@ module _ (asked : Asked) (files : FileMap) where
   no_program_file n (bad_table name what) c = absurd (not_there (map.get files asked.program) c.1.has_program.text n c.1.has_program.there)
 
   module _ (text : List ℕ) (there : There (Some text)) (none : (program : Whole) → IsTextOfProgram text program → ⊥) where
-    no_program_of : (program : Whole) → HasProgram files asked program → ⊥
+    no_program_of : (program : Whole) → HasProgram files asked.program program → ⊥
     no_program_of program h = none program (subst (λ (t : List ℕ). IsTextOfProgram t program) (there_once (map.get files asked.program) text h.text there h.there) h.is_text)
 
     not_reached : (name : List ℕ) → ReachesFile files asked name → map.get files name ≡ None → ⊥
@@ -121,13 +121,13 @@ module _ (asked : Asked) (files : FileMap) where
   -- ---- a program that is accepted
 
   module _ (program : Whole) (is : IsProgramOf asked.program program files) where
-    has_program : HasProgram files asked program
+    has_program : HasProgram files asked.program program
     has_program = record { text = is.text; there = is.there; is_text = is.just.is }
 
     same_text : (text : List ℕ) → There (Some text) → text ≡ is.text
     same_text text t = there_once (map.get files asked.program) is.text text is.there t
 
-    one_program : (other : Whole) → HasProgram files asked other → other ≡ program
+    one_program : (other : Whole) → HasProgram files asked.program other → other ≡ program
     one_program other h = is.just.only other (subst (λ (t : List ℕ). IsTextOfProgram t other) (same_text h.text h.there) h.is_text)
 
     none_wrong : (line : ℕ) (what : What) (text : List ℕ) → There (Some text) → HasWrong text line what → ⊥
@@ -242,7 +242,7 @@ module _ (asked : Asked) (files : FileMap) where
       built : (name text : List ℕ) (it : Schedule) → asked.schedule ≡ Some name → map.get files name ≡ Some text → IsTextOf text it → (AreQuiet it.events → ⊥) → ⊥
       built name text it e t i q = let s = read_here name text e t in not_quiet text it s.0 i q s.1 s.2
 
-      same_tables : (other : Whole) → HasProgram files asked other → tables_of other ≡ tables_of program
+      same_tables : (other : Whole) → HasProgram files asked.program other → tables_of other ≡ tables_of program
       same_tables other h = ap tables_of (one_program other h)
 
       module _ (it : Outcome) (stops : StopsAtTable program files it) where
@@ -262,7 +262,7 @@ module _ (asked : Asked) (files : FileMap) where
           have_tables = stops.have_tables;
         }
 
-        not_complete : (other : Whole) (tables : List (List Record)) → HasProgram files asked other → HaveTables files (tables_of other) tables → ⊥
+        not_complete : (other : Whole) (tables : List (List Record)) → HasProgram files asked.program other → HaveTables files (tables_of other) tables → ⊥
         not_complete other tables p h = not_all files stops.before stops.behind stops.table tables none (subst (λ (ts : List Listed). HaveTables files ts tables) (same_tables other p ∙ stops.in_order) h)
 
         -- a table that is reached and not accepted is this one

@@ -72,19 +72,10 @@ use Rattle.valid_copies.specs.Stands.{WasPut}
 use Rattle.valid_copies.specs.Readings.{HasText}
 use Rattle.haloop_run.specs.Meanings.{meaning_of}
 use Rattle.haloop_run.specs.steps.Inputs.{CanRun}
-use Rattle.haloop_run.proofs.Blocked.{same_end, same_parts}
-use Rattle.loop_program.proofs.NoCaches.{no_output_cache, no_source_caches}
-use Rattle.loop_program.specs.Programs.{IsTextOfProgram}
+use Rattle.haloop_run.specs.Clearing.{built, cleared}
+use Rattle.haloop_run.proofs.SameChains.{same_end, same_parts}
 
 -- ---- what a run is given
-
--- the program of a text has no caches
-pub no_caches : (text : List ℕ) (program : Whole) → IsTextOfProgram text program → HasNoCaches program.shape
-no_caches text program t = record { sources = no_source_caches text program t; output = no_output_cache text program t }
-
--- with whatever blocks
-no_caches_blocked : (shape : Shape) (blocks : List ℕ) → HasNoCaches shape → HasNoCaches (blocked shape blocks)
-no_caches_blocked shape blocks n = record { sources = n.sources; output = n.output }
 
 same_length : (schemas : List Schema) (tables : List (List Record)) → AreTablesOf schemas tables → length tables ≡ length schemas
 same_length [] [] t = refl
@@ -97,15 +88,15 @@ blocks_enough block one [] t = omega arith
 blocks_enough block one (rows ∷ tables) zero = (div_ceil_times (length rows) block (omega (arith, one))).0
 blocks_enough block one (rows ∷ tables) (suc t) = blocks_enough block one tables t
 
-module _ (program : Whole) (schedule : Schedule) (tables : List (List Record)) (shape : Shape) (is : shape ≡ blocked program.shape (map (block_count schedule.block) tables)) (can : CanRun schedule) (fit : TablesFit program.shape tables) (well : IsWellFormed shape) where
+module _ (program : Whole) (schedule : Schedule) (tables : List (List Record)) (shape : Shape) (is : shape ≡ cleared (blocked program.shape (map (block_count schedule.block) tables))) (can : CanRun schedule) (fit : TablesFit program.shape tables) (well : IsWellFormed shape) where
   abbrev given : Shape
-  given = blocked program.shape (map (block_count schedule.block) tables)
+  given = cleared (blocked program.shape (map (block_count schedule.block) tables))
 
-  pub can_begin : HasNoCaches program.shape → CanBegin shape schedule
+  pub can_begin : HasNoCaches shape → CanBegin shape schedule
   can_begin none = subst (λ (s : Shape). CanBegin s schedule) (sym is) (record {
     counted = record { well_formed = subst IsWellFormed is well; blocks = length-map tables (block_count schedule.block) ∙ same_length program.shape.tables tables fit };
     limits = can.limits;
-    caches = no_caches_blocked program.shape (map (block_count schedule.block) tables) none;
+    caches = subst HasNoCaches is none;
     quiet = can.quiet;
   })
 
@@ -123,11 +114,11 @@ module _ (program : Whole) (schedule : Schedule) (tables : List (List Record)) (
   }
 
 -- what functions mean is what those of the program do
-pub same_meaning : (program made : Whole) (blocks : List ℕ) (functions : List Written) (uses : Uses) (shape : Shape) → made ≡ with_blocks program blocks → functions ≡ made.functions → uses ≡ made.uses → shape ≡ made.shape → meanings.meaning_of functions uses shape.parts ≡ meaning_of program
+pub same_meaning : (program made : Whole) (blocks : List ℕ) (functions : List Written) (uses : Uses) (shape : Shape) → made ≡ with_blocks program blocks → functions ≡ made.functions → uses ≡ made.uses → shape ≡ cleared made.shape → meanings.meaning_of functions uses shape.parts ≡ meaning_of program
 same_meaning program made blocks functions uses shape m f u s =
     ap (λ (x : List Written). meanings.meaning_of x uses shape.parts) (f ∙ ap (λ (w : Whole). w.functions) m)
     ∙ ap (λ (x : Uses). meanings.meaning_of program.functions x shape.parts) (u ∙ ap (λ (w : Whole). w.uses) m)
-    ∙ ap (λ (x : Shape). meanings.meaning_of program.functions program.uses x.parts) (s ∙ ap (λ (w : Whole). w.shape) m)
+    ∙ ap (λ (x : Shape). meanings.meaning_of program.functions program.uses x.parts) (s ∙ ap (λ (w : Whole). cleared w.shape) m)
 
 -- ---- decisions
 
@@ -317,9 +308,9 @@ module _ {D : Type 0} (g : Disks D) (program : Whole) (schedule : Schedule) (tab
           ended = end_told.1;
           copies = has_copies seen (λ t. (is_right t).0);
           report_is = e;
-          ends = λ t. same_end (meaning_of program) program.shape (map (block_count schedule.block) tables) tables state.plain.round (end_of it.end)
+          ends = λ t. same_end (meaning_of program) program.shape (map (block_count schedule.block) tables) built false tables state.plain.round (end_of it.end)
               (subst (λ round. Ends (meaning_of program) setup.shape tables round (end_of it.end)) came.rounds (is_right t).1);
-          parts = λ t. (is_right t).2 ∙ ap (last_out (meaning_of program) setup.shape tables) came.rounds ∙ same_parts (meaning_of program) program.shape (map (block_count schedule.block) tables) tables state.plain.round;
+          parts = λ t. (is_right t).2 ∙ ap (last_out (meaning_of program) setup.shape tables) came.rounds ∙ same_parts (meaning_of program) program.shape (map (block_count schedule.block) tables) built false tables state.plain.round;
         }
 
       module _ (seen : state.plain ≡ plain_of state.setup.schedule state.kept) (later : (g.faults old ≤ g.faults mid) × (g.misses old ≤ g.misses mid)) where

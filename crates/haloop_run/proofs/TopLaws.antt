@@ -50,10 +50,10 @@ asked_once words a b g h = same_names a.program b.program a.schedule b.schedule 
 -- ---- statuses
 
 -- a status that says neither that a device failed nor that memory ran out
-abbrev IsSaid : ℕ → Type 0
+abbrev pub IsSaid : ℕ → Type 0
 IsSaid n = (n ≢ 8) × (n ≢ 10)
 
-refusal_said : (n : ℕ) → IsRefusal n → IsSaid n
+pub refusal_said : (n : ℕ) → IsRefusal n → IsSaid n
 refusal_said n (inl e) = (omega arith, omega arith)
 refusal_said n (inr (inl e)) = (omega arith, omega arith)
 refusal_said n (inr (inr (inl e))) = (omega arith, omega arith)
@@ -68,7 +68,7 @@ refusal_of NotBuilt = inr refl
 refusal_of (BadTable name what) = inl (inr (inl refl))
 
 -- the statuses of inputs that are refused
-abbrev IsOfInput : ℕ → Type 0
+abbrev pub IsOfInput : ℕ → Type 0
 IsOfInput n = (2 ≤ n) × (n ≢ 6) × IsSaid n
 
 of_refusal : (n : ℕ) → IsRefusal n ⊎ (n ≡ 12) → IsOfInput n
@@ -78,7 +78,7 @@ of_refusal n (inl (inr (inr (inl e)))) = (omega arith, omega arith, (omega arith
 of_refusal n (inl (inr (inr (inr e)))) = (omega arith, omega arith, (omega arith, omega arith))
 of_refusal n (inr e) = (omega arith, omega arith, (omega arith, omega arith))
 
-input_status : (fault : InputFault) → IsOfInput (status_of (outcome_of fault))
+pub input_status : (fault : InputFault) → IsOfInput (status_of (outcome_of fault))
 input_status fault = of_refusal (status_of (outcome_of fault)) (refusal_of fault)
 
 -- the statuses of runs that are refused
@@ -127,30 +127,30 @@ module _ {O : Type 0} (h : Sink O) (held holds : O) (result : ℕ) where
   said_memory status line (inr (inl s)) = inr (inl (s.0, s.1, inr (either s.2)))
   said_memory status line (inr (inr s)) = inr (inr (s.0, inr (either s.1)))
 
-  said_status : (n : ℕ) (line : List ℕ) → Says n line → Answers n result
+  pub said_status : (n : ℕ) (line : List ℕ) → Says n line → Answers n result
   said_status n line (inl s) = inl s.0
   said_status n line (inr (inl s)) = inr (inl s.0)
   said_status n line (inr (inr s)) = inr (inr s.0)
 
   -- a status that is neither 8 nor 10 is said whole
-  said_whole : (n : ℕ) (line : List ℕ) → Says n line → result ≢ 8 → result ≢ 10 → (n ≡ result) × Gains h held line holds
+  pub said_whole : (n : ℕ) (line : List ℕ) → Says n line → result ≢ 8 → result ≢ 10 → (n ≡ result) × Gains h held line holds
   said_whole n line (inl s) a b = (sym s.0, s.1)
   said_whole n line (inr (inl s)) a b = absurd (a s.0)
   said_whole n line (inr (inr s)) a b = absurd (b s.0)
 
   -- a part of the line was said in any case
-  said_part : (n : ℕ) (line : List ℕ) → Says n line → SaidPart h line held holds
+  pub said_part : (n : ℕ) (line : List ℕ) → Says n line → SaidPart h line held holds
   said_part n line (inl s) = inl (as_prefix line (h.told held) (h.told holds) s.1)
   said_part n line (inr (inl s)) = s.2
   said_part n line (inr (inr s)) = s.1
 
   -- a status 8 for what has another comes of the sink
-  sink_failed : (n : ℕ) (line : List ℕ) → Says n line → result ≡ 8 → n ≢ 8 → WritesFailed h held holds
+  pub sink_failed : (n : ℕ) (line : List ℕ) → Says n line → result ≡ 8 → n ≢ 8 → WritesFailed h held holds
   sink_failed n line (inl s) e d = absurd (d (sym s.0 ∙ e))
   sink_failed n line (inr (inl s)) e d = s.1
   sink_failed n line (inr (inr s)) e d = absurd (omega (arith, s.0))
 
-  is_status : (n : ℕ) (line : List ℕ) → IsStatus n → Says n line → IsStatus result
+  pub is_status : (n : ℕ) (line : List ℕ) → IsStatus n → Says n line → IsStatus result
   is_status n line i (inl s) = subst IsStatus (sym s.0) i
   is_status n line i (inr (inl s)) = inr (inr (inr (inl s.0)))
   is_status n line i (inr (inr s)) = inr (inr (inr (inr (inl s.0))))
@@ -165,7 +165,7 @@ refused_status : (n : ℕ) → IsRefusal n ⊎ (n ≡ 12) → IsStatus n
 refused_status n (inl i) = inr (inr (inr (inr (inr (inr i)))))
 refused_status n (inr e) = inr (inr (inr (inr (inr (inl e)))))
 
-command_status : (done : Result Done CommandFault) → IsStatus (done_status done)
+pub command_status : (done : Result Done CommandFault) → IsStatus (done_status done)
 command_status (Ok done) = inl refl
 command_status (Err (Refused fault)) = refused_status (status_of (outcome_of fault)) (refusal_of fault)
 command_status (Err (Stopped fault)) = stopped_status (status_of_stop fault) (stop_is fault)
@@ -268,7 +268,7 @@ module _ {F D O : Type 0} (g : Files F) (d : Disks D) (h : Sink O) (words : List
 
   -- what the input is judged to be, it is
   input_is : (asked : Asked) (it : Outcome) → AskFor words asked → ((told : FileMap) → Tells g old told → Judged asked told it) → InputIs g words old it
-  input_is asked it a j = (asked, a, λ told t. (j told t).comes)
+  input_is asked it a j = inl (asked, a, λ told t. (j told t).comes)
 
   -- nothing is changed, and this is wrong with the input
   pub record Refusing : Type 0 where
@@ -279,7 +279,7 @@ module _ {F D O : Type 0} (g : Files F) (d : Disks D) (h : Sink O) (words : List
     pub no_calls : holds ≡ held
     pub absents : result ≡ 11 → AbsentsRose g old new
 
-  absent_at : (fault : InputFault) → status_of (outcome_of fault) ≡ 11 → AtAbsent fault (AbsentsRose g old new) → AbsentsRose g old new
+  pub absent_at : (fault : InputFault) → status_of (outcome_of fault) ≡ 11 → AtAbsent fault (AbsentsRose g old new) → AbsentsRose g old new
   absent_at (Absent name) e a = a
   absent_at (BadProgram line what) e a = absurd (omega arith)
   absent_at (BadSchedule line what) e a = absurd (omega arith)
@@ -407,7 +407,7 @@ module _ {F D O : Type 0} (g : Files F) (d : Disks D) (h : Sink O) (words : List
   abbrev Due : List ℕ → Type 0
   Due line = IsDue g d words old new held holds line
 
-  due_part : (line : List ℕ) → Due line → SaidPart h line before after → GainsDue g d h words old new held holds before after
+  pub due_part : (line : List ℕ) → Due line → SaidPart h line before after → GainsDue g d h words old new held holds before after
   due_part line u (inl p) = (line, u, p)
   due_part line u (inr p) = (memory_line, of_memory refl, p)
 
@@ -442,7 +442,7 @@ module _ {F D O : Type 0} (g : Files F) (d : Disks D) (h : Sink O) (words : List
   device_of (inl p) e = device_at p.asked p.done p.came p.said e
   device_of (inr n) e = inr (sink_failed h before after result 1 usage_line n.3 e (omega arith))
 
-  rose : (CallsFailed × Gained device_line) ⊎ WritesFailed h before after → FaultsRose g old new ⊎ DisksFailed d held holds ⊎ WritesFailed h before after
+  pub rose : (CallsFailed × Gained device_line) ⊎ WritesFailed h before after → FaultsRose g old new ⊎ DisksFailed d held holds ⊎ WritesFailed h before after
   rose (inl (inl f, l)) = inl f
   rose (inl (inr f, l)) = inr (inl f)
   rose (inr w) = inr (inr w)
@@ -450,7 +450,7 @@ module _ {F D O : Type 0} (g : Files F) (d : Disks D) (h : Sink O) (words : List
   pub device : Came → result ≡ 8 → FaultsRose g old new ⊎ DisksFailed d held holds ⊎ WritesFailed h before after
   device c e = rose (device_of c e)
 
-  with_due : GainsDue g d h words old new held holds before after → (CallsFailed × Gained device_line) ⊎ WritesFailed h before after → (CallsFailed × Gained device_line) ⊎ (WritesFailed h before after × GainsDue g d h words old new held holds before after)
+  pub with_due : GainsDue g d h words old new held holds before after → (CallsFailed × Gained device_line) ⊎ WritesFailed h before after → (CallsFailed × Gained device_line) ⊎ (WritesFailed h before after × GainsDue g d h words old new held holds before after)
   with_due p (inl x) = inl x
   with_due p (inr w) = inr (w, p)
 
@@ -555,8 +555,8 @@ module _ {F D O : Type 0} (g : Files F) (d : Disks D) (h : Sink O) (words : List
   pub answered : Came → (told : FileMap) → Tells g old told → (asked : Asked) (it : Outcome) → AskFor words asked → ComesTo told asked it → AnswersTo it result
   answered (inl p) told t asked it a i =
       answered_at p.asked p.done p.came p.said told t it (subst (λ (x : Asked). ComesTo told x it) (asked_once words asked p.asked a p.ask_for) i)
-  answered (inr n) told t asked it a i = absurd (n.0 asked a)
+  answered (inr n) told t asked it a i = absurd (n.0.0 asked a)
 
   pub usage_answered : Came → IsUsage words → Answers 1 result
-  usage_answered (inl p) u = absurd (u p.asked p.ask_for)
+  usage_answered (inl p) u = absurd (u.0 p.asked p.ask_for)
   usage_answered (inr n) u = said_status h before after result 1 usage_line n.3

@@ -38,10 +38,10 @@ tables_of program = listed program.names program.files program.shape.tables
 
 -- ---- files that are accepted
 
--- the program's file has the text of this program
-pub record HasProgram (files : FileMap) (asked : Asked) (program : Whole) : Type 0 where
+-- the file of this name has the text of this program
+pub record HasProgram (files : FileMap) (name : List ℕ) (program : Whole) : Type 0 where
   pub text : List ℕ
-  pub there : map.get files asked.program ≡ Some text
+  pub there : map.get files name ≡ Some text
   pub is_text : IsTextOfProgram text program
 
 -- the file of this name has the text of this schedule, in which nothing is lost
@@ -76,13 +76,13 @@ HaveTables files (table ∷ tables) (rows ∷ more) = HasTable files table rows 
 -- the program is accepted, and the schedule of this name is asked for
 pub record ReachesSchedule (files : FileMap) (asked : Asked) (name : List ℕ) : Type 0 where
   pub program : Whole
-  pub has_program : HasProgram files asked program
+  pub has_program : HasProgram files asked.program program
   pub is_asked : asked.schedule ≡ Some name
 
 -- the program and the schedule are accepted, and so are the tables before this one
 pub record ReachesTable (files : FileMap) (asked : Asked) (table : Listed) : Type 0 where
   pub program : Whole
-  pub has_program : HasProgram files asked program
+  pub has_program : HasProgram files asked.program program
   pub schedule : Option Schedule
   pub has_schedule : HasSchedule files asked.schedule schedule
   pub before : List Listed
@@ -109,7 +109,7 @@ pub data Outcome : Type 0 where
 
 -- what the input comes to: all of it is accepted, or all before the first file that is not
 abbrev pub ComesTo : FileMap → Asked → Outcome → Type 0
-ComesTo files asked (complete program schedule tables) = HasProgram files asked program × HasSchedule files asked.schedule schedule × HaveTables files (tables_of program) tables
+ComesTo files asked (complete program schedule tables) = HasProgram files asked.program program × HasSchedule files asked.schedule schedule × HaveTables files (tables_of program) tables
 ComesTo files asked (absent name) = ReachesFile files asked name × (map.get files name ≡ None)
 ComesTo files asked (bad_program line what) = (text : List ℕ) × (map.get files asked.program ≡ Some text) × HasWrong text line what
 ComesTo files asked (bad_schedule line what) = (name : List ℕ) × ReachesSchedule files asked name × (text : List ℕ) × (map.get files name ≡ Some text) × HasFault text (At line what)
@@ -117,3 +117,12 @@ ComesTo files asked not_built =
     (name : List ℕ) × ReachesSchedule files asked name × (text : List ℕ) × (map.get files name ≡ Some text) × (schedule : Schedule) × IsTextOf text schedule × (AreQuiet schedule.events → ⊥)
 ComesTo files asked (bad_table name what) =
     (table : Listed) × ReachesTable files asked table × (name ≡ table.name) × (bytes : List ℕ) × (map.get files table.file ≡ Some bytes) × HasTableFault table.schema bytes what × (what ≢ fault.Memory)
+
+-- what the input of `check` comes to, which is its program alone
+abbrev pub ProgramComesTo : FileMap → List ℕ → Outcome → Type 0
+ProgramComesTo files name (complete program schedule tables) = HasProgram files name program × (schedule ≡ None) × (tables ≡ [])
+ProgramComesTo files name (absent at) = (at ≡ name) × (map.get files name ≡ None)
+ProgramComesTo files name (bad_program line what) = (text : List ℕ) × (map.get files name ≡ Some text) × HasWrong text line what
+ProgramComesTo files name (bad_schedule line what) = ⊥
+ProgramComesTo files name not_built = ⊥
+ProgramComesTo files name (bad_table table what) = ⊥

@@ -1,3 +1,4 @@
+pub mod Clearing
 pub mod Inputs
 pub mod Lines
 pub mod Meanings

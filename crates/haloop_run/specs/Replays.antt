@@ -19,15 +19,16 @@ use Rattle.schedule_text.specs.declared.schedule.Schedule.{Schedule}
 use Rattle.valid_copies.specs.Calls.{Begun, Follows, MissedIn}
 use Rattle.valid_copies.specs.Readings.{HasText}
 use Rattle.valid_copies.specs.Texts.{text_of}
+use Rattle.haloop_run.specs.Clearing.{cleared}
 use Rattle.haloop_run.specs.Meanings.{meaning_of}
 
 -- how many blocks there are of these records, of so many records each but for the last
 abbrev pub block_count : ℕ → List Record → ℕ
 block_count block rows = div_ceil (length rows) block
 
--- what a run is given: the program's shape, with the number of blocks of each table, and the schedule
+-- what a run is given: the program's shape, with the number of blocks of each table and with the caches that are built alone, and the schedule
 abbrev pub setup_of : Whole → Schedule → List (List Record) → Setup
-setup_of program schedule tables = record { shape = blocked program.shape (map (block_count schedule.block) tables); schedule = schedule }
+setup_of program schedule tables = record { shape = cleared (blocked program.shape (map (block_count schedule.block) tables)); schedule = schedule }
 
 -- what it computes
 abbrev pub computed : Whole → Schedule → List (List Record) → World

@@ -8,6 +8,8 @@ use Rattle.counter_report.specs.declared.journal.Entry.TheVariants as entry
 use Rattle.counter_report.specs.declared.report.End.{End as Reported}
 use Rattle.counter_report.specs.declared.report.End.TheVariants as reported_end
 use Rattle.counter_report.specs.declared.report.Report.{Report}
+use Rattle.cache_conditions.specs.Conditions.{verdicts}
+use Rattle.cache_conditions.specs.Texts.{check_text}
 use Rattle.cluster_core.specs.Deciding.{chain_decision, end_of}
 use Rattle.cluster_core.specs.Disks.{Leaves as LeavesDisks}
 use Rattle.hal_base.specs.declared.record.Record.{Record}
@@ -25,8 +27,8 @@ use Rattle.run_model.specs.Lists.{number_of}
 use Rattle.run_model.specs.State.{PlainCluster}
 use Rattle.schedule_text.specs.declared.schedule.Schedule.{Schedule}
 use Rattle.valid_copies.specs.RightCalls.{RightCalls}
-use Rattle.haloop_run.specs.Words.{Asked, AskFor, IsUsage}
-use Rattle.haloop_run.specs.Inputs.{ComesTo, Outcome, absent, bad_program, bad_schedule, bad_table, complete, not_built}
+use Rattle.haloop_run.specs.Words.{Asked, AskFor, AskToCheck, IsUsage}
+use Rattle.haloop_run.specs.Inputs.{ComesTo, HasProgram, Outcome, ProgramComesTo, absent, bad_program, bad_schedule, bad_table, complete, not_built}
 use Rattle.haloop_run.specs.Lines.{device_line, memory_line, not_built_line, outcome_line, plain_report, task_line, usage_line}
 use Rattle.haloop_run.specs.Outputs.{Leaves, LeavesPart, WritesParts, WritesSome}
 use Rattle.haloop_run.specs.Replays.{ArePut, Ending, RunsTo, broken, computed, finished, missed, setup_of, task_failed}
@@ -47,9 +49,11 @@ DisksFailed d old new = Rose (d.faults old) (d.faults new)
 abbrev pub DiskCountsStay : {D : Type 0} → Disks D → D → D → Type 0
 DiskCountsStay d old new = (d.faults old ≤ d.faults new) × (d.misses old ≤ d.misses new)
 
--- the words ask for this, and the files, where they tell, come to it
+-- the words ask for a command, and the files, where they tell, come to this
 abbrev pub InputIs : {F : Type 0} → Files F → List (List ℕ) → F → Outcome → Type 0
-InputIs g words files it = (asked : Asked) × AskFor words asked × ((told : FileMap) → Tells g files told → ComesTo told asked it)
+InputIs g words files it =
+    ((asked : Asked) × AskFor words asked × ((told : FileMap) → Tells g files told → ComesTo told asked it))
+    ⊎ ((program : List ℕ) × AskToCheck words program × ((told : FileMap) → Tells g files told → ProgramComesTo told program it))
 
 -- ---- what a command leaves
 
@@ -109,6 +113,12 @@ IsDoneBy g d (Some schedule) asked old new held holds line = IsRunDone g d asked
 abbrev pub IsDone : {F D : Type 0} → Files F → Disks D → Asked → F → F → D → D → List ℕ → Type 0
 IsDone g d asked old new held holds line = IsDoneBy g d asked.schedule asked old new held holds line
 
+-- `check` is done: the line is the text of the verdicts on the program of this file
+pub record IsChecked {F : Type 0} (g : Files F) (name : List ℕ) (files : F) (line : List ℕ) : Type 0 where
+  pub program : Whole
+  pub is : (told : FileMap) → Tells g files told → HasProgram told name program
+  pub line_is : line ≡ check_text (verdicts program)
+
 -- a task failed as often as the schedule allows, and its journal has a line of each failure
 pub record IsTaskFailed {F D : Type 0} (g : Files F) (d : Disks D) (asked : Asked) (files : F) (held holds : D) (line : List ℕ) : Type 0 where
   pub task : Task
@@ -162,6 +172,7 @@ AnswersTo (bad_table name what) result = Answers 3 result
 -- a line that is due: that of a command that is done, or of what hindered it
 pub data IsDue {F D : Type 0} (g : Files F) (d : Disks D) (words : List (List ℕ)) (old new : F) (held holds : D) (line : List ℕ) : Type 0 where
   of_done : (asked : Asked) → AskFor words asked → IsDone g d asked old new held holds line → IsDue g d words old new held holds line
+  of_check : (program : List ℕ) → AskToCheck words program → IsChecked g program old line → IsDue g d words old new held holds line
   of_usage : IsUsage words → line ≡ usage_line → IsDue g d words old new held holds line
   of_input : (it : Outcome) → InputIs g words old it → line ≡ outcome_line it → IsDue g d words old new held holds line
   of_task : (asked : Asked) → AskFor words asked → IsTaskFailed g d asked old held holds line → IsDue g d words old new held holds line

@@ -1,4 +1,6 @@
 -- What the contracts of private steps say.
+pub mod Checks
+pub mod Clearing
 pub mod Commands
 pub mod Inputs
 pub mod Outputs

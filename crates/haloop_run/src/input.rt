@@ -5,7 +5,7 @@ ghost use Rattle.hal_outside.specs.Told.{FileMap};
 ghost use Rattle.hal_outside.specs.Calls.{OnlyReads, Tells};
 ghost use Rattle.plain_job.specs.Fit.{AreRecordsOf, TablesFit};
 ghost use Rattle.run_laws.specs.WithoutLoss as without_loss;
-ghost use Rattle.run_laws.specs.WithoutLoss.{AreQuiet, HasNoCaches};
+ghost use Rattle.run_laws.specs.WithoutLoss.{AreQuiet};
 ghost use Rattle.haloop_run.specs.declared.fault.InputFault.TheVariants as fault;
 ghost use Rattle.haloop_run.specs.Inputs.{complete, HasSchedule, HasScheduleAt, HasTable, HaveTables, tables_of};
 ghost use Rattle.haloop_run.specs.steps.Inputs.{AsAsked, CanRun, HasFile, IsProgramOf, Judged, listing, NoFile, NoProgram, NoSchedule, NoTable, OtherSchedule, Stops, StopsAtTable};
@@ -38,7 +38,6 @@ pub(crate) fn accepted_input<F: Files>(
     ensures reads { OnlyReads F.Files files.old files.new }
     ensures fit { IfOk result (λ input. TablesFit input.program.shape input.tables) }
     ensures few { IfOk result (λ input. AllByRecursion AreFew input.tables) }
-    ensures caches { IfOk result (λ input. HasNoCaches input.program.shape) }
     ensures can { IfOk result (λ input. IfSome input.schedule CanRun) }
     ensures asked { IfOk result (λ input. AsAsked (asked_by command.now).schedule input.schedule) }
     ensures found { IfOk result (λ input. (told : FileMap) → Tells F.Files files.old told → Judged (asked_by command.now) told (complete input.program input.schedule input.tables)) }
@@ -55,9 +54,8 @@ pub(crate) fn accepted_input<F: Files>(
 }
 
 /// The program whose text the file of this name has.
-fn program_file<F: Files>(alloc: Global, name: &str, files: &mut F) -> Result<Program, CommandFault>
+pub(crate) fn program_file<F: Files>(alloc: Global, name: &str, files: &mut F) -> Result<Program, CommandFault>
     ensures reads { OnlyReads F.Files files.old files.new }
-    ensures caches { IfOk result (λ program. HasNoCaches program.shape) }
     ensures found { IfOk result (λ program. (told : FileMap) → Tells F.Files files.old told → IsProgramOf name.now program told) }
     ensures stops { IfErr result (Stops F.Files files.old files.new (NoProgram name.now)) }
 {

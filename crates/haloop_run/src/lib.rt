@@ -2,6 +2,8 @@
 #![tactic(auto)]
 
 mod chain;
+mod check;
+mod clearing;
 mod fault;
 mod input;
 mod lines;

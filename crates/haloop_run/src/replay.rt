@@ -9,9 +9,9 @@ ghost use Rattle.haloop_run.specs.steps.Runs.{AreFew, IsLoadedFor, IsRefusedLoad
 ghost use Rattle.hal_outside.specs.Told.{OnTold};
 ghost use Rattle.name_values.specs.Values.{World};
 ghost use Rattle.plain_job.specs.Fit.{TablesFit};
-ghost use Rattle.run_laws.specs.WithoutLoss.{HasNoCaches};
 ghost use Rattle.valid_copies.specs.RightCalls.{RightCalls};
 
+use crate::clearing::without_caches;
 use cluster_core::{Cluster, CoreFault};
 use counter_report::{Report, tally};
 use function_eval::Evaluator;
@@ -39,14 +39,13 @@ pub(crate) fn replay<D: Disks>(
 ) -> Result<Replayed, CoreFault>
     requires fit { TablesFit program.shape tables }
     requires few { AllByRecursion AreFew tables }
-    requires caches { HasNoCaches program.shape }
     requires can { CanRun schedule }
     ensures left { Leaves D.Disks schedule.nodes disks.old disks.new }
     ensures replayed { IfOk result (IsReplayed D.Disks program schedule tables disks.old disks.new) }
     ensures refused { IfErr result (IsRefusedRun D.Disks program schedule tables disks.old disks.new) }
 {
     let blocks = block_counts(alloc, &tables, schedule.block)?;
-    let Runnable { typed, uses, shape } = Runnable::new(program.with_blocks(blocks));
+    let Runnable { typed, uses, shape } = without_caches(alloc, program.with_blocks(blocks))?;
     let functions = Evaluator::new(alloc, typed, uses, shape.parts)?;
     let mut cluster = match loaded_cluster(alloc, shape, schedule, tables, disks) {
         Ok(cluster) => cluster,

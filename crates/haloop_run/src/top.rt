@@ -2,20 +2,22 @@ ghost use Rattle.std.specs.Prelude.{◌≡◌, ◌≤◌, ◌⊎◌, ℕ, IfOk, 
 ghost use Rattle.hal_outside.specs.Told.{FileMap};
 ghost use Rattle.hal_outside.specs.Calls.{AbsentsRose, Changes, CountsStay, FaultsRose, Gains, Tells, WritesFailed};
 ghost use Rattle.plain_job.specs.declared.ending.End.{End};
-ghost use Rattle.haloop_run.specs.Inputs.{ComesTo, Outcome};
+ghost use Rattle.haloop_run.specs.Inputs.{ComesTo, Outcome, ProgramComesTo};
 ghost use Rattle.haloop_run.specs.Inputs as input;
 ghost use Rattle.haloop_run.specs.Lines as lines;
 ghost use Rattle.haloop_run.specs.Lines.{outcome_line, status_of};
 ghost use Rattle.haloop_run.specs.Outputs.{Leaves};
-ghost use Rattle.haloop_run.specs.Statuses.{Answers, AnswersTo, AreTrue, BeganRun, DiskCountsStay, DisksFailed, GainsDue, InputIs, IsDone, IsMissed, IsRefusal, IsStatus, IsTaskFailed, LeavesSome, TellsEnd};
-ghost use Rattle.haloop_run.specs.Words.{Asked, AskFor, IsUsage, texts};
-ghost use Rattle.haloop_run.specs.steps.Commands.{NoCommand, Performed, Said, done_line, done_status, failed_line, failed_status};
+ghost use Rattle.haloop_run.specs.Statuses.{Answers, AnswersTo, AreTrue, BeganRun, DiskCountsStay, DisksFailed, GainsDue, InputIs, IsChecked, IsDone, IsMissed, IsRefusal, IsStatus, IsTaskFailed, LeavesSome, TellsEnd};
+ghost use Rattle.haloop_run.specs.Words.{Asked, AskFor, AskToCheck, IsUsage, texts};
+ghost use Rattle.haloop_run.specs.steps.Checks.{CheckedOr};
+ghost use Rattle.haloop_run.specs.steps.Commands.{NoCommand, Performed, Said, done_line, done_status, failed_line, failed_status, fault_line_of, fault_status_of};
 ghost use Rattle.haloop_run.specs.steps.Words.{asked_by};
 
+use crate::check::do_check;
 use crate::fault::CommandFault;
 use crate::lines::{done_text, fault_line, fault_status, stop_line, stop_status};
 use crate::run::{Done, perform_command};
-use crate::words::{Command, asked_command};
+use crate::words::{Command, asked_check, asked_command};
 use hal_base::Memory;
 use hal_outside::{Disks, FileFault, Files, Sink, SinkFault};
 use std::alloc::Global;
@@ -37,12 +39,16 @@ pub fn haloop_top<F: Files, D: Disks, O: Sink>(
     ensures disk_counts { DiskCountsStay D.Disks disks.old disks.new }
     ensures sink_faults_stay { O.faults out.old ≤ O.faults out.new }
 
-    // 0: where the disks tell and show their damage, only the part files are changed, to the texts of the parts of the chain;
-    // the lines on the sink tell the round in which the chain ends, and how.
-    ensures headline { result ≡ 0 → AreTrue D.Disks disks.old → (asked : Asked) × AskFor (texts words.now) asked × (rounds : ℕ) × (end : End)
+    // 0 of `run` and `plain`: where the disks tell and show their damage, only the part files are changed, to the texts of the
+    // parts of the chain; the lines on the sink tell the round in which the chain ends, and how.
+    ensures headline { (asked : Asked) → AskFor (texts words.now) asked → result ≡ 0 → AreTrue D.Disks disks.old → (rounds : ℕ) × (end : End)
         × Changes F.Files (Leaves asked rounds end) files.old files.new × (line : List ℕ) × TellsEnd asked.schedule rounds end line × Gains O.Sink out.old line out.new }
     // Whatever the disks tell, `plain` has made no call on them, and `run` is a run of the machine, whose journal its report counts.
-    ensures done { result ≡ 0 → (asked : Asked) × AskFor (texts words.now) asked × (line : List ℕ) × IsDone F.Files D.Disks asked files.old files.new disks.old disks.new line × Gains O.Sink out.old line out.new }
+    ensures done { (asked : Asked) → AskFor (texts words.now) asked → result ≡ 0 → (line : List ℕ) × IsDone F.Files D.Disks asked files.old files.new disks.old disks.new line × Gains O.Sink out.old line out.new }
+
+    // 0 of `check`: the sink gained the text of the verdicts on the program. At no status is a file changed, or a call made on disks.
+    ensures checked { (program : List ℕ) → AskToCheck (texts words.now) program → result ≡ 0 → (line : List ℕ) × IsChecked F.Files program files.old line × Gains O.Sink out.old line out.new }
+    ensures check_keeps { (program : List ℕ) → AskToCheck (texts words.now) program → (F.told files.new ≡ F.told files.old) × (disks.new ≡ disks.old) }
 
     // 1, and 2, 3, 4 and 11: the words, or what the input comes to, and its line. No file is changed, and no call is made on disks.
     ensures usage { result ≡ 1 → IsUsage (texts words.now) × Gains O.Sink out.old lines.usage_line out.new }
@@ -74,6 +80,7 @@ pub fn haloop_top<F: Files, D: Disks, O: Sink>(
     // The other direction: what the words and the files come to is answered, but for 8 and 10; a run may yet be refused.
     ensures usage_answered { IsUsage (texts words.now) → Answers 1 result }
     ensures answered { (told : FileMap) → Tells F.Files files.old told → (asked : Asked) (it : Outcome) → AskFor (texts words.now) asked → ComesTo told asked it → AnswersTo it result }
+    ensures check_answered { (told : FileMap) → Tells F.Files files.old told → (program : List ℕ) (it : Outcome) → AskToCheck (texts words.now) program → ProgramComesTo told program it → Answers (status_of it) result }
 {
     perform(alloc, words, files, disks, out)
 }
@@ -89,11 +96,15 @@ fn perform<F: Files, D: Disks, O: Sink>(
     ensures counts { CountsStay F.Files files.old files.new }
     ensures disk_counts { DiskCountsStay D.Disks disks.old disks.new }
     ensures sink_faults_stay { O.faults out.old ≤ O.faults out.new }
-    ensures performed { Performed F.Files D.Disks O.Sink (texts words.now) files.old files.new disks.old disks.new out.old out.new result
-        ⊎ NoCommand F.Files O.Sink (texts words.now) files.old files.new disks.old disks.new out.old out.new result }
+    ensures performed { CheckedOr F.Files D.Disks O.Sink (texts words.now) files.old files.new disks.old disks.new out.old out.new result
+        (Performed F.Files D.Disks O.Sink (texts words.now) files.old files.new disks.old disks.new out.old out.new result
+            ⊎ NoCommand F.Files O.Sink (texts words.now) files.old files.new disks.old disks.new out.old out.new result) }
 {
-    match asked_command(words) {
-        Some(command) => do_command(alloc, &command, files, disks, out),
+    if let Some(command) = asked_command(words) {
+        return do_command(alloc, &command, files, disks, out);
+    }
+    match asked_check(words) {
+        Some(name) => do_check(alloc, name, files, out),
         None => tell(out, USAGE, 1),
     }
 }
@@ -122,13 +133,23 @@ fn say<O: Sink>(alloc: Global, done: &Result<Done, CommandFault>, out: &mut O) -
 {
     match done {
         Ok(done) => tell_made(out, &done_text(alloc, done), 0),
-        Err(CommandFault::Refused(fault)) => {
+        Err(fault) => say_fault(alloc, fault, out),
+    }
+}
+
+/// Writes why a command is not done, and answers the status.
+pub(crate) fn say_fault<O: Sink>(alloc: Global, fault: &CommandFault, out: &mut O) -> u8
+    ensures sink_faults_stay { O.faults out.old ≤ O.faults out.new }
+    ensures said { Said O.Sink (fault_status_of fault.now) (fault_line_of fault.now) out.old out.new result }
+{
+    match fault {
+        CommandFault::Refused(fault) => {
             tell_made(out, &fault_line(alloc, fault), fault_status(fault))
         }
-        Err(CommandFault::Stopped(fault)) => {
+        CommandFault::Stopped(fault) => {
             tell_made(out, &stop_line(alloc, *fault), stop_status(*fault))
         }
-        Err(CommandFault::Failed(fault)) => say_failed(*fault, out),
+        CommandFault::Failed(fault) => say_failed(*fault, out),
     }
 }
 
@@ -157,7 +178,7 @@ fn tell_made<O: Sink>(out: &mut O, made: &Result<Vec<u8>, Memory>, status: u8) -
 }
 
 /// Writes one text, and answers the status; where the sink fails, 8 or 10 in its place.
-fn tell<O: Sink>(out: &mut O, line: &[u8], status: u8) -> u8
+pub(crate) fn tell<O: Sink>(out: &mut O, line: &[u8], status: u8) -> u8
     ensures sink_faults_stay { O.faults out.old ≤ O.faults out.new }
     ensures said { Said O.Sink status line.now out.old out.new result }
 {

@@ -1,9 +1,9 @@
 ghost use Rattle.std.specs.Prelude.{◌≡◌, ◌≢◌, IfSome, IfNone, IsTrue, ◌↔◌, [], None};
 ghost use Rattle.std.specs.Option.{option_copied};
-ghost use Rattle.haloop_run.specs.Words.{AskFor, IsUsage, texts, words_of};
+ghost use Rattle.haloop_run.specs.Words.{AskFor, AskForNone, AskNoCheck, AskToCheck, texts, words_of};
 ghost use Rattle.haloop_run.specs.steps.Words.{IsNamed, asked_by};
 
-/// What a command names: the program's file, the schedule's file for `run` and none for `plain`, and the
+/// What `run` or `plain` names: the program's file, the schedule's file for `run` and none for `plain`, and the
 /// folder for the part files.
 #[derive(Drop)]
 pub(crate) struct Command<'a> {
@@ -12,10 +12,10 @@ pub(crate) struct Command<'a> {
     pub(crate) out: &'a str,
 }
 
-/// The command that the words ask for. docs/FORMATS.md, "Words".
+/// What `run` or `plain` names, where the words ask for one of them. docs/FORMATS.md, "Words".
 pub(crate) fn asked_command(words: &[String]) -> Option<Command<'_>>
     ensures found { IfSome result (λ command. AskFor (texts words.now) (asked_by command)) }
-    ensures only { IfNone result (IsUsage (texts words.now)) }
+    ensures only { IfNone result (AskForNone (texts words.now)) }
 {
     match words {
         [word, program, out] if word.as_str() == "plain" => {
@@ -23,6 +23,19 @@ pub(crate) fn asked_command(words: &[String]) -> Option<Command<'_>>
         }
         [word, program, schedule, out] if word.as_str() == "run" => {
             named(program.as_str(), Some(schedule.as_str()), out.as_str())
+        }
+        _ => None,
+    }
+}
+
+/// The name of the program's file, where the words ask for the verdicts on it. docs/FORMATS.md, "Words".
+pub(crate) fn asked_check(words: &[String]) -> Option<&str>
+    ensures found { IfSome result (λ name. AskToCheck (texts words.now) name.now) }
+    ensures only { IfNone result (AskNoCheck (texts words.now)) }
+{
+    match words {
+        [word, program] if word.as_str() == "check" && !program.is_empty() => {
+            Some(program.as_str())
         }
         _ => None,
     }

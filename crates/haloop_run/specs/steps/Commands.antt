@@ -101,19 +101,27 @@ abbrev pub failed_line : FileFault → List ℕ
 failed_line (file.Device d) = device_line
 failed_line file.Memory = memory_line
 
+-- the status of why a command is not done
+abbrev pub fault_status_of : CommandFault → ℕ
+fault_status_of (Refused fault) = status_of (outcome_of fault)
+fault_status_of (Stopped fault) = status_of_stop fault
+fault_status_of (Failed fault) = failed_status fault
+
+-- its line
+abbrev pub fault_line_of : CommandFault → List ℕ
+fault_line_of (Refused fault) = outcome_line (outcome_of fault)
+fault_line_of (Stopped fault) = line_of_stop fault
+fault_line_of (Failed fault) = failed_line fault
+
 -- the status of what a command came to
 abbrev pub done_status : Result Done CommandFault → ℕ
 done_status (Ok done) = 0
-done_status (Err (Refused fault)) = status_of (outcome_of fault)
-done_status (Err (Stopped fault)) = status_of_stop fault
-done_status (Err (Failed fault)) = failed_status fault
+done_status (Err fault) = fault_status_of fault
 
 -- its line
 abbrev pub done_line : Result Done CommandFault → List ℕ
 done_line (Ok done) = text_of_done done
-done_line (Err (Refused fault)) = outcome_line (outcome_of fault)
-done_line (Err (Stopped fault)) = line_of_stop fault
-done_line (Err (Failed fault)) = failed_line fault
+done_line (Err fault) = fault_line_of fault
 
 -- the words ask for a command, which came to something, and that was said
 pub record Performed {F D O : Type 0} (g : Files F) (d : Disks D) (h : Sink O) (words : List (List ℕ)) (old new : F) (held holds : D) (before after : O) (result : ℕ) : Type 0 where

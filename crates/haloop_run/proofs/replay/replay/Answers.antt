@@ -16,6 +16,7 @@ use Rattle.plain_job.specs.Fit.{FunctionsFit}
 use Rattle.run_model.specs.Runs.{loaded}
 use Rattle.run_model.specs.State.{Setup}
 use Rattle.valid_copies.specs.RightCalls.{RightCalls}
+use Rattle.haloop_run.specs.Clearing.{cleared}
 use Rattle.haloop_run.specs.Meanings.{meaning_of}
 use Rattle.haloop_run.specs.Replays.{setup_of}
 use Rattle.haloop_run.specs.steps.Runs.{IsLoadedFor, IsRefusedLoad}
@@ -27,6 +28,11 @@ returns-in_err-blocks-clause-refused g c =
     let r = err_from_is_err_and c.from_residual.result c.from_residual.ensures.1 in
     rw (r.1, r.2) (loaded (setup_of c.args.program c.args.schedule c.args.tables), none_ran g.D.Disks c.args.program c.args.schedule c.args.tables c.args.disks.now)
 
+pub returns-in_err-typed-clause-refused : goal.returns-in_err-typed-clause-refused
+returns-in_err-typed-clause-refused g c =
+    let r = err_from_is_err_and c.from_residual-in_err-typed.result c.from_residual-in_err-typed.ensures.1 in
+    rw (r.1, r.2) (loaded (setup_of c.args.program c.args.schedule c.args.tables), none_ran g.D.Disks c.args.program c.args.schedule c.args.tables c.args.disks.now)
+
 pub returns-in_err-functions-clause-refused : goal.returns-in_err-functions-clause-refused
 returns-in_err-functions-clause-refused g c =
     let r = err_from_is_err_and c.from_residual-in_err-functions.result c.from_residual-in_err-functions.ensures.1 in
@@ -34,11 +40,11 @@ returns-in_err-functions-clause-refused g c =
 
 pub loaded_cluster-requires : goal.loaded_cluster-requires
 loaded_cluster-requires g c =
-    let shape_is : c.new-typed.result.shape ≡ blocked c.args.program.shape c.in_ok-blocks.blocks = c.new-typed.ensures.shape ∙ ap (λ (p : Whole). p.shape) c.with_blocks.ensures in
-    let is = shape_is ∙ ap (λ (b : List ℕ). blocked c.args.program.shape b) c.in_ok-blocks.ensures in
+    let shape_is : c.in_ok-typed.field-0.shape ≡ cleared (blocked c.args.program.shape c.in_ok-blocks.blocks) = c.in_ok-typed.ensures.shape ∙ ap (λ (p : Whole). cleared p.shape) c.with_blocks.ensures in
+    let is = shape_is ∙ ap (λ (b : List ℕ). cleared (blocked c.args.program.shape b)) c.in_ok-blocks.ensures in
     record {
-      can = can_begin c.args.program c.args.schedule c.args.tables c.new-typed.result.shape is c.requires.can c.requires.fit c.new-typed.ensures.well_formed c.requires.caches;
-      fit = tables_fit c.args.program c.args.schedule c.args.tables c.new-typed.result.shape is c.requires.can c.requires.fit c.new-typed.ensures.well_formed;
+      can = can_begin c.args.program c.args.schedule c.args.tables c.in_ok-typed.field-0.shape is c.requires.can c.requires.fit c.in_ok-typed.ensures.well_formed c.in_ok-typed.ensures.caches;
+      fit = tables_fit c.args.program c.args.schedule c.args.tables c.in_ok-typed.field-0.shape is c.requires.can c.requires.fit c.in_ok-typed.ensures.well_formed;
     }
 
 pub returns-in-Err-clause-left : goal.returns-in-Err-clause-left
@@ -49,8 +55,8 @@ returns-in-Err-clause-refused g c =
     let d = g.D.Disks in
     let old = c.args.disks.now in
     let mid = c.loaded_cluster.new.disks in
-    let shape_is : c.new-typed.result.shape ≡ blocked c.args.program.shape c.in_ok-blocks.blocks = c.new-typed.ensures.shape ∙ ap (λ (p : Whole). p.shape) c.with_blocks.ensures in
-    let is = shape_is ∙ ap (λ (b : List ℕ). blocked c.args.program.shape b) c.in_ok-blocks.ensures in
+    let shape_is : c.in_ok-typed.field-0.shape ≡ cleared (blocked c.args.program.shape c.in_ok-blocks.blocks) = c.in_ok-typed.ensures.shape ∙ ap (λ (p : Whole). cleared p.shape) c.with_blocks.ensures in
+    let is = shape_is ∙ ap (λ (b : List ℕ). cleared (blocked c.args.program.shape b)) c.in_ok-blocks.ensures in
     load_stops d c.args.program c.args.schedule c.args.tables old mid
     (subst (λ (s : Shape). (w : World) → IsOver s c.args.tables c.args.schedule.block w → OnTold (RightCalls w) (d.told old) (d.told mid)) is c.loaded_cluster.ensures.texts)
     c.loaded_cluster.ensures.not_missed c.loaded_cluster.ensures.left c.in-Err.fault
@@ -59,7 +65,7 @@ returns-in-Err-clause-refused g c =
 pub run-requires : goal.run-requires
 run-requires g c = record {
   fits = subst (λ (s : Setup). FunctionsFit (meanings.meaning_of c.in_ok-functions.functions.functions c.in_ok-functions.functions.uses c.in_ok-functions.functions.parts) s.shape) (sym c.in-Ok.ensures.loaded.begun.setup_is)
-      (rw c.in_ok-functions.ensures c.new-typed.ensures.fits);
+      (rw c.in_ok-functions.ensures c.in_ok-typed.ensures.fits);
 }
 
 pub returns-in-Ok-run-clause-left : goal.returns-in-Ok-run-clause-left
@@ -70,14 +76,14 @@ returns-in-Ok-run-clause-left g c =
     let program = c.args.program in
     let schedule = c.args.schedule in
     let tables = c.args.tables in
-    let shape_is : c.new-typed.result.shape ≡ blocked program.shape c.in_ok-blocks.blocks = c.new-typed.ensures.shape ∙ ap (λ (p : Whole). p.shape) c.with_blocks.ensures in
-    let is = shape_is ∙ ap (λ (b : List ℕ). blocked program.shape b) c.in_ok-blocks.ensures in
+    let shape_is : c.in_ok-typed.field-0.shape ≡ cleared (blocked program.shape c.in_ok-blocks.blocks) = c.in_ok-typed.ensures.shape ∙ ap (λ (p : Whole). cleared p.shape) c.with_blocks.ensures in
+    let is = shape_is ∙ ap (λ (b : List ℕ). cleared (blocked program.shape b)) c.in_ok-blocks.ensures in
     all_left d program schedule tables old mid
     (subst (λ (s : Shape). (w : World) → IsOver s tables schedule.block w → OnTold (RightCalls w) (d.told old) (d.told mid)) is c.loaded_cluster.ensures.texts)
     c.loaded_cluster.ensures.not_missed c.loaded_cluster.ensures.left c.in-Ok.cluster
     (subst (λ (s : Shape). IsLoadedFor d (cluster_setup s schedule) tables old mid c.in-Ok.cluster) is c.in-Ok.ensures.loaded)
-    (world_fits program schedule tables c.new-typed.result.shape is c.requires.can c.requires.fit c.new-typed.ensures.well_formed
-    (subst (λ (m : Meaning). FunctionsFit m c.new-typed.result.shape) (same_meaning program c.with_blocks.result c.in_ok-blocks.blocks c.new-typed.result.typed c.new-typed.result.uses c.new-typed.result.shape c.with_blocks.ensures c.new-typed.ensures.functions c.new-typed.ensures.uses c.new-typed.ensures.shape) c.new-typed.ensures.fits))
+    (world_fits program schedule tables c.in_ok-typed.field-0.shape is c.requires.can c.requires.fit c.in_ok-typed.ensures.well_formed
+    (subst (λ (m : Meaning). FunctionsFit m c.in_ok-typed.field-0.shape) (same_meaning program c.with_blocks.result c.in_ok-blocks.blocks c.in_ok-typed.field-0.typed c.in_ok-typed.field-0.uses c.in_ok-typed.field-0.shape c.with_blocks.ensures c.in_ok-typed.ensures.functions c.in_ok-typed.ensures.uses c.in_ok-typed.ensures.shape) c.in_ok-typed.ensures.fits))
     c.run.new.disks c.run.new.self.state c.run.ensures.disks
 
 pub returns-clause-left : goal.returns-clause-left
@@ -88,14 +94,14 @@ returns-clause-left g c =
     let program = c.args.program in
     let schedule = c.args.schedule in
     let tables = c.args.tables in
-    let shape_is : c.new-typed.result.shape ≡ blocked program.shape c.in_ok-blocks.blocks = c.new-typed.ensures.shape ∙ ap (λ (p : Whole). p.shape) c.with_blocks.ensures in
-    let is = shape_is ∙ ap (λ (b : List ℕ). blocked program.shape b) c.in_ok-blocks.ensures in
+    let shape_is : c.in_ok-typed.field-0.shape ≡ cleared (blocked program.shape c.in_ok-blocks.blocks) = c.in_ok-typed.ensures.shape ∙ ap (λ (p : Whole). cleared p.shape) c.with_blocks.ensures in
+    let is = shape_is ∙ ap (λ (b : List ℕ). cleared (blocked program.shape b)) c.in_ok-blocks.ensures in
     all_left d program schedule tables old mid
     (subst (λ (s : Shape). (w : World) → IsOver s tables schedule.block w → OnTold (RightCalls w) (d.told old) (d.told mid)) is c.loaded_cluster.ensures.texts)
     c.loaded_cluster.ensures.not_missed c.loaded_cluster.ensures.left c.in-Ok.cluster
     (subst (λ (s : Shape). IsLoadedFor d (cluster_setup s schedule) tables old mid c.in-Ok.cluster) is c.in-Ok.ensures.loaded)
-    (world_fits program schedule tables c.new-typed.result.shape is c.requires.can c.requires.fit c.new-typed.ensures.well_formed
-    (subst (λ (m : Meaning). FunctionsFit m c.new-typed.result.shape) (same_meaning program c.with_blocks.result c.in_ok-blocks.blocks c.new-typed.result.typed c.new-typed.result.uses c.new-typed.result.shape c.with_blocks.ensures c.new-typed.ensures.functions c.new-typed.ensures.uses c.new-typed.ensures.shape) c.new-typed.ensures.fits))
+    (world_fits program schedule tables c.in_ok-typed.field-0.shape is c.requires.can c.requires.fit c.in_ok-typed.ensures.well_formed
+    (subst (λ (m : Meaning). FunctionsFit m c.in_ok-typed.field-0.shape) (same_meaning program c.with_blocks.result c.in_ok-blocks.blocks c.in_ok-typed.field-0.typed c.in_ok-typed.field-0.uses c.in_ok-typed.field-0.shape c.with_blocks.ensures c.in_ok-typed.ensures.functions c.in_ok-typed.ensures.uses c.in_ok-typed.ensures.shape) c.in_ok-typed.ensures.fits))
     c.run.new.disks c.run.new.self.state c.run.ensures.disks
 
 pub returns-in-Ok-run-clause-replayed : goal.returns-in-Ok-run-clause-replayed
@@ -110,9 +116,9 @@ returns-in-Ok-run-clause-replayed g c =
     let cluster = c.in-Ok.cluster in
     let it = c.in-Ok-run.finished in
     let state = c.run.new.self.state in
-    let shape_is : c.new-typed.result.shape ≡ blocked program.shape c.in_ok-blocks.blocks = c.new-typed.ensures.shape ∙ ap (λ (p : Whole). p.shape) c.with_blocks.ensures in
-    let is = shape_is ∙ ap (λ (b : List ℕ). blocked program.shape b) c.in_ok-blocks.ensures in
-    let made = same_meaning program c.with_blocks.result c.in_ok-blocks.blocks c.new-typed.result.typed c.new-typed.result.uses c.new-typed.result.shape c.with_blocks.ensures c.new-typed.ensures.functions c.new-typed.ensures.uses c.new-typed.ensures.shape in
+    let shape_is : c.in_ok-typed.field-0.shape ≡ cleared (blocked program.shape c.in_ok-blocks.blocks) = c.in_ok-typed.ensures.shape ∙ ap (λ (p : Whole). cleared p.shape) c.with_blocks.ensures in
+    let is = shape_is ∙ ap (λ (b : List ℕ). cleared (blocked program.shape b)) c.in_ok-blocks.ensures in
+    let made = same_meaning program c.with_blocks.result c.in_ok-blocks.blocks c.in_ok-typed.field-0.typed c.in_ok-typed.field-0.uses c.in_ok-typed.field-0.shape c.with_blocks.ensures c.in_ok-typed.ensures.functions c.in_ok-typed.ensures.uses c.in_ok-typed.ensures.shape in
     let run : meanings.meaning_of c.in_ok-functions.functions.functions c.in_ok-functions.functions.uses c.in_ok-functions.functions.parts ≡ meaning_of program = rw c.in_ok-functions.ensures made in
     let none = c.in-Ok.ensures.loaded.begun.answers in
     let inside = subst (λ (s : Seen). s.plain ≡ plain_of s.setup.schedule s.kept) c.drop-in-Ok-run.view_is refl in
@@ -121,7 +127,7 @@ returns-in-Ok-run-clause-replayed g c =
     (subst (λ (s : Shape). (w : World) → IsOver s tables schedule.block w → OnTold (RightCalls w) (d.told old) (d.told mid)) is c.loaded_cluster.ensures.texts)
     c.loaded_cluster.ensures.not_missed c.loaded_cluster.ensures.left cluster
     (subst (λ (s : Shape). IsLoadedFor d (cluster_setup s schedule) tables old mid cluster) is c.in-Ok.ensures.loaded)
-    (world_fits program schedule tables c.new-typed.result.shape is c.requires.can c.requires.fit c.new-typed.ensures.well_formed (subst (λ (m : Meaning). FunctionsFit m c.new-typed.result.shape) made c.new-typed.ensures.fits))
+    (world_fits program schedule tables c.in_ok-typed.field-0.shape is c.requires.can c.requires.fit c.in_ok-typed.ensures.well_formed (subst (λ (m : Meaning). FunctionsFit m c.in_ok-typed.field-0.shape) made c.in_ok-typed.ensures.fits))
     new state c.run.ensures.disks it (subst (λ (m : Meaning). RanToEnd m cluster.state (d.told mid) state (d.told new) it) run (c.in-Ok-run.ensures.finished none))
     (subst (λ (m : Meaning). IsByChain m cluster.state (d.shows_damage mid) (d.told mid) (d.told new) state.plain (Ok it)) run (c.in-Ok-run.ensures.by_chain none))
     (subst (λ (m : Meaning). d.shows_damage mid → OverRight m cluster.state.setup (d.told mid) cluster.state.kept (λ w. OnTold (RightCalls w) (d.told mid) (d.told new))) run (c.in-Ok-run.ensures.texts none))
@@ -141,9 +147,9 @@ returns-clause-refused g c =
     let cluster = c.in-Ok.cluster in
     let fault = c.in-Err-run.fault in
     let state = c.run.new.self.state in
-    let shape_is : c.new-typed.result.shape ≡ blocked program.shape c.in_ok-blocks.blocks = c.new-typed.ensures.shape ∙ ap (λ (p : Whole). p.shape) c.with_blocks.ensures in
-    let is = shape_is ∙ ap (λ (b : List ℕ). blocked program.shape b) c.in_ok-blocks.ensures in
-    let made = same_meaning program c.with_blocks.result c.in_ok-blocks.blocks c.new-typed.result.typed c.new-typed.result.uses c.new-typed.result.shape c.with_blocks.ensures c.new-typed.ensures.functions c.new-typed.ensures.uses c.new-typed.ensures.shape in
+    let shape_is : c.in_ok-typed.field-0.shape ≡ cleared (blocked program.shape c.in_ok-blocks.blocks) = c.in_ok-typed.ensures.shape ∙ ap (λ (p : Whole). cleared p.shape) c.with_blocks.ensures in
+    let is = shape_is ∙ ap (λ (b : List ℕ). cleared (blocked program.shape b)) c.in_ok-blocks.ensures in
+    let made = same_meaning program c.with_blocks.result c.in_ok-blocks.blocks c.in_ok-typed.field-0.typed c.in_ok-typed.field-0.uses c.in_ok-typed.field-0.shape c.with_blocks.ensures c.in_ok-typed.ensures.functions c.in_ok-typed.ensures.uses c.in_ok-typed.ensures.shape in
     let run : meanings.meaning_of c.in_ok-functions.functions.functions c.in_ok-functions.functions.uses c.in_ok-functions.functions.parts ≡ meaning_of program = rw c.in_ok-functions.ensures made in
     let none = c.in-Ok.ensures.loaded.begun.answers in
     let inside = subst (λ (s : Seen). s.plain ≡ plain_of s.setup.schedule s.kept) c.drop-2.view_is refl in
@@ -152,7 +158,7 @@ returns-clause-refused g c =
     (subst (λ (s : Shape). (w : World) → IsOver s tables schedule.block w → OnTold (RightCalls w) (d.told old) (d.told mid)) is c.loaded_cluster.ensures.texts)
     c.loaded_cluster.ensures.not_missed c.loaded_cluster.ensures.left cluster
     (subst (λ (s : Shape). IsLoadedFor d (cluster_setup s schedule) tables old mid cluster) is c.in-Ok.ensures.loaded)
-    (world_fits program schedule tables c.new-typed.result.shape is c.requires.can c.requires.fit c.new-typed.ensures.well_formed (subst (λ (m : Meaning). FunctionsFit m c.new-typed.result.shape) made c.new-typed.ensures.fits))
+    (world_fits program schedule tables c.in_ok-typed.field-0.shape is c.requires.can c.requires.fit c.in_ok-typed.ensures.well_formed (subst (λ (m : Meaning). FunctionsFit m c.in_ok-typed.field-0.shape) made c.in_ok-typed.ensures.fits))
     new state c.run.ensures.disks seen (c.loaded_cluster.ensures.left.faults_stay, c.loaded_cluster.ensures.left.misses_stay) fault (subst (λ (m : Meaning). RanToFault m cluster.state (d.told mid) state (d.told new) fault) run (c.in-Err-run.ensures.refused none))
     (subst (λ (m : Meaning). IsByChain m cluster.state (d.shows_damage mid) (d.told mid) (d.told new) state.plain (Err fault)) run (c.in-Err-run.ensures.by_chain none))
     (subst (λ (m : Meaning). d.shows_damage mid → OverRight m cluster.state.setup (d.told mid) cluster.state.kept (λ w. OnTold (RightCalls w) (d.told mid) (d.told new))) run (c.in-Err-run.ensures.texts none))

@@ -1,4 +1,4 @@
-use Rattle.haloop_run.proofs.TopLaws as law
+use Rattle.haloop_run.proofs.CheckLaws as law
 use Rattle.haloop_run.proofs.top.haloop_top.Goals as goal
 
 pub returns-clause-status : goal.returns-clause-status
@@ -9,6 +9,15 @@ returns-clause-headline g c = law.headline _ _ _ _ _ _ _ _ _ _ _ c.perform.ensur
 
 pub returns-clause-done : goal.returns-clause-done
 returns-clause-done g c = law.done _ _ _ _ _ _ _ _ _ _ _ c.perform.ensures.performed
+
+pub returns-clause-checked : goal.returns-clause-checked
+returns-clause-checked g c = law.checked _ _ _ _ _ _ _ _ _ _ _ c.perform.ensures.performed
+
+pub returns-clause-check_keeps : goal.returns-clause-check_keeps
+returns-clause-check_keeps g c = law.check_keeps _ _ _ _ _ _ _ _ _ _ _ c.perform.ensures.performed
+
+pub returns-clause-check_answered : goal.returns-clause-check_answered
+returns-clause-check_answered g c = law.check_answered _ _ _ _ _ _ _ _ _ _ _ c.perform.ensures.performed
 
 pub returns-clause-usage : goal.returns-clause-usage
 returns-clause-usage g c = law.usage _ _ _ _ _ _ _ _ _ _ _ c.perform.ensures.performed
