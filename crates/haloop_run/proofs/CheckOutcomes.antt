@@ -29,13 +29,9 @@ module _ (name : List ℕ) (files : FileMap) where
   no_file n not_built c = absurd c
   no_file n (bad_table table what) c = absurd c
 
-  -- the file is the one that is asked for
-  at_name : (at : List ℕ) → at ≡ name → map.get files at ≡ None → map.get files name ≡ None
-  at_name at e n = subst (λ (x : List ℕ). map.get files x ≡ None) e n
-
   no_program : (text : List ℕ) → map.get files name ≡ Some text → ((program : Whole) → IsTextOfProgram text program → ⊥) → (other : Outcome) → ProgramComesTo files name other → status_of other ≡ 2
   no_program text there none (complete program schedule tables) c = absurd (none program (subst (λ (t : List ℕ). IsTextOfProgram t program) (there_once (map.get files name) text c.0.text there c.0.there) c.0.is_text))
-  no_program text there none (absent at) c = absurd (not_there (map.get files name) text (at_name at c.0 c.1) there)
+  no_program text there none (absent at) c = absurd (not_there (map.get files name) text c.1 there)
   no_program text there none (bad_program line what) c = refl
   no_program text there none (bad_schedule line what) c = absurd c
   no_program text there none not_built c = absurd c
@@ -53,7 +49,7 @@ module _ (name : List ℕ) (files : FileMap) where
 
     pub only_accepted : (other : Outcome) → ProgramComesTo files name other → status_of other ≡ 0
     only_accepted (complete program schedule tables) c = refl
-    only_accepted (absent at) c = absurd (not_there (map.get files name) is.text (at_name at c.0 c.1) is.there)
+    only_accepted (absent at) c = absurd (not_there (map.get files name) is.text c.1 is.there)
     only_accepted (bad_program line what) c = absurd (is.just.right line what (subst (λ (t : List ℕ). HasWrong t line what) (there_once (map.get files name) is.text c.0 is.there c.1) c.2))
     only_accepted (bad_schedule line what) c = absurd c
     only_accepted not_built c = absurd c

@@ -106,6 +106,24 @@ abbrev step_with : Step → List Source → Step
 step_with step sources = record { sources = sources; out = step.out }
 
 -- steps that are cleared one after another are those of the cleared shape
-pub each_step : (j : ℕ) (steps : List Step) → map cleared_step steps ≡ flagged_steps built j steps
+each_step : (j : ℕ) (steps : List Step) → map cleared_step steps ≡ flagged_steps built j steps
 each_step j [] = refl
 each_step j (step ∷ steps) = ap (λ sources. step_with step sources ∷ map cleared_step steps) (each_source j 1 step.sources) ∙ ap (λ others. flagged_step built j step ∷ others) (each_step (suc j) steps)
+
+-- a shape with these steps, without the reducer output cache
+abbrev with_steps : Shape → List Step → Shape
+with_steps shape steps = record {
+  parts = shape.parts;
+  rounds = shape.rounds;
+  exact = shape.exact;
+  threshold = shape.threshold;
+  start = shape.start;
+  tables = shape.tables;
+  blocks = shape.blocks;
+  steps = steps;
+  reducer_output = false;
+}
+
+-- with them it is cleared
+pub all_cleared : (shape : Shape) (steps : List Step) → steps ≡ map cleared_step shape.steps → with_steps shape steps ≡ cleared shape
+all_cleared shape steps e = ap (with_steps shape) (e ∙ each_step 1 shape.steps)
