@@ -17,7 +17,7 @@ use Rattle.haloop_run.specs.Lines.{device_line, memory_line, not_built_line, out
 use Rattle.haloop_run.specs.Outputs.{Leaves}
 use Rattle.haloop_run.specs.Statuses.{Answers, AnswersTo, AreTrue, BeganRun, DisksFailed, GainsDue, InputIs, IsChecked, IsDone, IsDue, IsMissed, IsRefusal, IsStatus, IsTaskFailed, LeavesSome, TellsEnd, of_check, of_device, of_input, of_memory}
 use Rattle.haloop_run.specs.steps.Checks.{CheckCameTo, Checked, CheckedOr, check_line, check_status}
-use Rattle.haloop_run.specs.steps.Commands.{Said, fault_line_of, fault_status_of}
+use Rattle.haloop_run.specs.steps.Commands.{Said}
 use Rattle.haloop_run.specs.steps.Inputs.{outcome_of}
 use Rattle.haloop_run.proofs.TopLaws.{Came, IsSaid, absent_at, asked_once, command_status, due_part, input_status, is_status, refusal_said, rose, said_part, said_status, said_whole, sink_failed, with_due}
 use Rattle.haloop_run.proofs.TopLaws as law

@@ -11,7 +11,7 @@ use Rattle.loop_program.specs.Whole.{Whole}
 use Rattle.haloop_run.specs.Inputs.{HasProgram, Outcome, ProgramComesTo, absent, bad_program, bad_schedule, bad_table, complete, not_built}
 use Rattle.haloop_run.specs.Lines.{status_of}
 use Rattle.haloop_run.specs.Statuses.{IsChecked}
-use Rattle.haloop_run.specs.steps.Checks.{OnlyAccepted, ProgramJudged}
+use Rattle.haloop_run.specs.steps.Checks.{ProgramJudged}
 use Rattle.haloop_run.specs.steps.Inputs.{IsProgramOf, NoProgram}
 
 there_once : (o : Option (List ℕ)) (a b : List ℕ) → o ≡ Some a → o ≡ Some b → b ≡ a

@@ -1,5 +1,5 @@
 -- A shape in which caches are cleared is as good as it was: functions fit it, and it has the same chain.
-use Rattle.std.proofs.Common.{◌≡◌, ℕ, zero, suc, ◌≤◌, ◌<◌, Bool, true, false, List, [], ◌∷◌, Some, refl, sym, ap, subst, ◌∙◌, length, map}
+use Rattle.std.proofs.Common.{◌≡◌, ℕ, suc, ◌≤◌, ◌<◌, Bool, true, false, List, [], ◌∷◌, Some, refl, sym, ap, subst, ◌∙◌, length, map}
 use Rattle.std.specs.List.{AllByRecursion}
 use Rattle.hal_base.specs.declared.fields.Schema.{Schema}
 use Rattle.hal_base.specs.declared.record.Record.{Record}
@@ -8,9 +8,9 @@ use Rattle.hal_base.specs.declared.shape.Source.{Source}
 use Rattle.hal_base.specs.declared.shape.Step.{Step}
 use Rattle.hal_base.specs.declared.value.Value.{Value}
 use Rattle.hal_base.specs.Meaning.{Meaning}
-use Rattle.hal_base.specs.Shapes.{MayBeKept, key_kind, out_schema, source_at, state_schema, step_at, taken}
+use Rattle.hal_base.specs.Shapes.{MayBeKept, key_kind, out_schema, source_at, step_at, taken}
 use Rattle.hal_base.specs.Values.{IsRecordOf}
-use Rattle.loop_program.specs.Flags.{SourceFlags, flagged, flagged_source, flagged_sources, flagged_step, flagged_steps}
+use Rattle.loop_program.specs.Flags.{SourceFlags, flagged, flagged_sources, flagged_step, flagged_steps}
 use Rattle.loop_program.proofs.FlaggedShapes.{all_sources, flagged_source_at, flagged_step_at, many_steps, same_key, same_out, same_taken}
 use Rattle.plain_job.specs.Fit.{AreRecordsOf, FunctionsFit, HaveGroups, IsKeyOf}
 use Rattle.run_laws.specs.WithoutLoss.{HasNoCaches}

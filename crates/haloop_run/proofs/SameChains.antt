@@ -1,5 +1,5 @@
 -- How many blocks its tables have, and which caches there are, is nothing to a chain.
-use Rattle.std.proofs.Common.{◌≡◌, ℕ, zero, suc, ◌+◌, ◌≤◌, ◌<◌, Bool, List, [], ◌∷◌, Option, None, Some, refl, ap, subst, ◌∙◌, length, map, slice_get}
+use Rattle.std.proofs.Common.{◌≡◌, ℕ, zero, suc, ◌+◌, ◌≤◌, ◌<◌, Bool, List, [], ◌∷◌, refl, ap, subst, ◌∙◌, length, map, slice_get}
 use Rattle.hal_base.specs.declared.record.Record.{Record}
 use Rattle.hal_base.specs.declared.shape.Origin.{Origin}
 use Rattle.hal_base.specs.declared.shape.Shape.{Shape}

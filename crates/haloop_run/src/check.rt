@@ -30,11 +30,7 @@ pub(crate) fn do_check<F: Files, O: Sink>(
 }
 
 /// The text of the verdicts on the program of a file. docs/FORMATS.md, "Verdicts".
-fn verdicts_of<F: Files>(
-    alloc: Global,
-    name: &str,
-    files: &mut F,
-) -> Result<Vec<u8>, CommandFault>
+fn verdicts_of<F: Files>(alloc: Global, name: &str, files: &mut F) -> Result<Vec<u8>, CommandFault>
     ensures reads { OnlyReads F.Files files.old files.new }
     ensures found { IfOk result (λ text. IsChecked F.Files name.now files.old text.items) }
     ensures only { IfOk result (λ _. OnlyAccepted F.Files name.now files.old) }

@@ -54,7 +54,11 @@ pub(crate) fn accepted_input<F: Files>(
 }
 
 /// The program whose text the file of this name has.
-pub(crate) fn program_file<F: Files>(alloc: Global, name: &str, files: &mut F) -> Result<Program, CommandFault>
+pub(crate) fn program_file<F: Files>(
+    alloc: Global,
+    name: &str,
+    files: &mut F,
+) -> Result<Program, CommandFault>
     ensures reads { OnlyReads F.Files files.old files.new }
     ensures found { IfOk result (λ program. (told : FileMap) → Tells F.Files files.old told → IsProgramOf name.now program told) }
     ensures stops { IfErr result (Stops F.Files files.old files.new (NoProgram name.now)) }

@@ -98,7 +98,7 @@ fn perform<F: Files, D: Disks, O: Sink>(
     ensures sink_faults_stay { O.faults out.old ≤ O.faults out.new }
     ensures performed { CheckedOr F.Files D.Disks O.Sink (texts words.now) files.old files.new disks.old disks.new out.old out.new result
         (Performed F.Files D.Disks O.Sink (texts words.now) files.old files.new disks.old disks.new out.old out.new result
-            ⊎ NoCommand F.Files O.Sink (texts words.now) files.old files.new disks.old disks.new out.old out.new result) }
+        ⊎ NoCommand F.Files O.Sink (texts words.now) files.old files.new disks.old disks.new out.old out.new result) }
 {
     if let Some(command) = asked_command(words) {
         return do_command(alloc, &command, files, disks, out);
