@@ -15,7 +15,7 @@ use Rattle.haloop_run.specs.Words.{Asked, AskFor, AskToCheck, IsUsage}
 use Rattle.haloop_run.specs.Inputs.{ComesTo, Outcome, ProgramComesTo, not_built}
 use Rattle.haloop_run.specs.Lines.{device_line, memory_line, not_built_line, outcome_line, status_of, usage_line}
 use Rattle.haloop_run.specs.Outputs.{Leaves}
-use Rattle.haloop_run.specs.Statuses.{Answers, AnswersTo, AreTrue, BeganRun, DisksFailed, GainsDue, InputIs, IsChecked, IsDone, IsDue, IsMissed, IsRefusal, IsStatus, IsTaskFailed, LeavesSome, TellsEnd, of_check, of_device, of_input, of_memory}
+use Rattle.haloop_run.specs.Statuses.{Answers, AnswersTo, AreTrue, BeganRun, DisksFailed, GainsDue, InputIs, IsCheckStatus, IsChecked, IsDone, IsDue, IsMissed, IsRefusal, IsStatus, IsTaskFailed, LeavesSome, TellsEnd, of_check, of_device, of_input, of_memory}
 use Rattle.haloop_run.specs.steps.Checks.{CheckCameTo, Checked, CheckedOr, check_line, check_status}
 use Rattle.haloop_run.specs.steps.Commands.{Said}
 use Rattle.haloop_run.specs.steps.Inputs.{outcome_of}
@@ -46,6 +46,25 @@ module _ {F D O : Type 0} (g : Files F) (d : Disks D) (h : Sink O) (words : List
     check_is_status : IsStatus result
     check_is_status = is_status h before after result (check_status c.done) (check_line c.done) (status_at c.done) c.said
 
+    sort_at : (done : Result (List ℕ) CommandFault) → CameSo done → IsCheckStatus (check_status done)
+    sort_at (Ok text) s = inl refl
+    sort_at (Err (Refused (Absent name))) s = inr (inr (inr (inr refl)))
+    sort_at (Err (Refused (BadProgram line what))) s = inr (inl refl)
+    sort_at (Err (Refused (BadSchedule line what))) s = absurd s.1
+    sort_at (Err (Refused NotBuilt)) s = absurd s.1
+    sort_at (Err (Refused (BadTable name what))) s = absurd s.1
+    sort_at (Err (Stopped fault)) s = absurd s.1
+    sort_at (Err (Failed (file.Device x))) s = inr (inr (inl refl))
+    sort_at (Err (Failed file.Memory)) s = inr (inr (inr (inl refl)))
+
+    sort_said : (n : ℕ) (line : List ℕ) → IsCheckStatus n → Said h n line before after result → IsCheckStatus result
+    sort_said n line i (inl s) = subst IsCheckStatus (sym s.0) i
+    sort_said n line i (inr (inl s)) = inr (inr (inl s.0))
+    sort_said n line i (inr (inr s)) = inr (inr (inr (inl s.0)))
+
+    check_sort : IsCheckStatus result
+    check_sort = sort_said (check_status c.done) (check_line c.done) (sort_at c.done c.came) c.said
+
     -- what was said whole
     whole : IsSaid result → (check_status c.done ≡ result) × Gained (check_line c.done)
     whole s = said_whole h before after result (check_status c.done) (check_line c.done) c.said s.0 s.1
@@ -56,7 +75,7 @@ module _ {F D O : Type 0} (g : Files F) (d : Disks D) (h : Sink O) (words : List
     verdicts_at : (done : Result (List ℕ) CommandFault) → CameSo done → (check_status done ≡ result) × Gained (check_line done) → result ≡ 0 → Verdicts c.name
     verdicts_at (Ok text) s w r = (text, s.0, w.1)
     verdicts_at (Err (Refused fault)) s w r = absurd (omega (arith, (input_status fault).0, w.0, r))
-    verdicts_at (Err (Stopped fault)) s w r = absurd s
+    verdicts_at (Err (Stopped fault)) s w r = absurd s.0
     verdicts_at (Err (Failed (file.Device x))) s w r = absurd (omega (arith, w.0, r))
     verdicts_at (Err (Failed file.Memory)) s w r = absurd (omega (arith, w.0, r))
 
@@ -70,7 +89,7 @@ module _ {F D O : Type 0} (g : Files F) (d : Disks D) (h : Sink O) (words : List
     input_at : (done : Result (List ℕ) CommandFault) → CameSo done → (check_status done ≡ result) × Gained (check_line done) → result ≢ 0 → IsSaid result → IsInput
     input_at (Ok text) s w n i = absurd (n (sym w.0))
     input_at (Err (Refused fault)) s w n i = (fault, s, w.0, w.1)
-    input_at (Err (Stopped fault)) s w n i = absurd s
+    input_at (Err (Stopped fault)) s w n i = absurd s.0
     input_at (Err (Failed (file.Device x))) s w n i = absurd (i.0 (sym w.0))
     input_at (Err (Failed file.Memory)) s w n i = absurd (i.1 (sym w.0))
 
@@ -78,7 +97,7 @@ module _ {F D O : Type 0} (g : Files F) (d : Disks D) (h : Sink O) (words : List
     of_input_fault n i = input_at c.done c.came (whole i) n i
 
     input_of : (fault : InputFault) → CameSo (Err (Refused fault)) → InputIs g words old (outcome_of fault)
-    input_of fault s = inr (c.name, c.ask, λ told t. (s.0 told t).comes)
+    input_of fault s = inr (c.name, c.ask, λ told t. (s.0.0 told t).comes)
 
     no_zero : IsRefusal result → result ≢ 0
     no_zero (inl e) z = omega (arith, e, z)
@@ -90,32 +109,24 @@ module _ {F D O : Type 0} (g : Files F) (d : Disks D) (h : Sink O) (words : List
     check_refused r = let f = of_input_fault (no_zero r) (refusal_said result r) in (outcome_of f.0, f.2, input_of f.0 f.1, f.3)
 
     check_absents : result ≡ 11 → AbsentsRose g old new
-    check_absents r = let f = of_input_fault (omega arith) (omega arith, omega arith) in absent_at g d h words old new held holds before after result f.0 (f.2 ∙ r) f.1.1
+    check_absents r = let f = of_input_fault (omega arith) (omega arith, omega arith) in absent_at g d h words old new held holds before after result f.0 (f.2 ∙ r) f.1.0.1
 
     -- no other status comes
-    check_is_not : (n : ℕ) → (n ≡ 1) ⊎ (n ≡ 6) → result ≡ n → ⊥
-    check_is_not n (inl e) r = let f = of_input_fault (omega arith) (omega arith, omega arith) in omega (arith, (input_status f.0).0, f.2, r, e)
-    check_is_not n (inr e) r = let f = of_input_fault (omega arith) (omega arith, omega arith) in (input_status f.0).1 (f.2 ∙ r ∙ e)
+    no_other : (n : ℕ) → IsCheckStatus n → (n ≢ 1) × (n ≢ 6) × (n ≢ 12)
+    no_other n (inl e) = (omega arith, omega arith, omega arith)
+    no_other n (inr (inl e)) = (omega arith, omega arith, omega arith)
+    no_other n (inr (inr (inl e))) = (omega arith, omega arith, omega arith)
+    no_other n (inr (inr (inr (inl e)))) = (omega arith, omega arith, omega arith)
+    no_other n (inr (inr (inr (inr e)))) = (omega arith, omega arith, omega arith)
 
-    abbrev NotBuiltYet : Type 0
-    NotBuiltYet = ((holds ≡ held) × InputIs g words old not_built × Gained not_built_line)
-        ⊎ ((asked : Asked) × AskFor words asked × (line : List ℕ) × IsMissed g d asked old held holds line × Gained line)
-
-    check_not_built : result ≡ 12 → NotBuiltYet
-    check_not_built r = let f = of_input_fault (omega arith) (omega arith, omega arith) in of_fault f.0 f.1 f.2 f.3
-      where
-        of_fault : (fault : InputFault) → CameSo (Err (Refused fault)) → status_of (outcome_of fault) ≡ result → Gained (outcome_line (outcome_of fault)) → NotBuiltYet
-        of_fault (Absent name) s e l = absurd (omega (arith, e, r))
-        of_fault (BadProgram line what) s e l = absurd (omega (arith, e, r))
-        of_fault (BadSchedule line what) s e l = absurd (omega (arith, e, r))
-        of_fault NotBuilt s e l = inl (same, input_of NotBuilt s, l)
-        of_fault (BadTable name what) s e l = absurd (omega (arith, e, r))
+    check_is_not : (result ≢ 1) × (result ≢ 6) × (result ≢ 12)
+    check_is_not = no_other result check_sort
 
     due_at : (done : Result (List ℕ) CommandFault) → CameSo done → Due (check_line done)
     due_at (Ok text) s = of_check c.name c.ask s.0
     due_at (Err (Refused fault)) s = of_input (outcome_of fault) (input_of fault s) refl
-    due_at (Err (Stopped fault)) s = absurd s
-    due_at (Err (Failed (file.Device x))) s = of_device (inl s) refl
+    due_at (Err (Stopped fault)) s = absurd s.0
+    due_at (Err (Failed (file.Device x))) s = of_device (inl s.0) refl
     due_at (Err (Failed file.Memory)) s = of_memory refl
 
     check_due : GainsDue g d h words old new held holds before after
@@ -124,8 +135,8 @@ module _ {F D O : Type 0} (g : Files F) (d : Disks D) (h : Sink O) (words : List
     device_at : (done : Result (List ℕ) CommandFault) → CameSo done → Said h (check_status done) (check_line done) before after result → result ≡ 8 → (CallsFailed × Gained device_line) ⊎ WritesFailed h before after
     device_at (Ok text) s said e = inr (sink_failed h before after result 0 text said e (omega arith))
     device_at (Err (Refused fault)) s said e = inr (sink_failed h before after result (status_of (outcome_of fault)) (outcome_line (outcome_of fault)) said e (input_status fault).2.0)
-    device_at (Err (Stopped fault)) s said e = absurd s
-    device_at (Err (Failed (file.Device x))) s (inl said) e = inl (inl s, said.1)
+    device_at (Err (Stopped fault)) s said e = absurd s.0
+    device_at (Err (Failed (file.Device x))) s (inl said) e = inl (inl s.0, said.1)
     device_at (Err (Failed (file.Device x))) s (inr (inl said)) e = inr said.1
     device_at (Err (Failed (file.Device x))) s (inr (inr said)) e = absurd (omega (arith, said.0, e))
     device_at (Err (Failed file.Memory)) s said e = inr (sink_failed h before after result 10 memory_line said e (omega arith))
@@ -144,8 +155,8 @@ module _ {F D O : Type 0} (g : Files F) (d : Disks D) (h : Sink O) (words : List
 
     answers_at : (done : Result (List ℕ) CommandFault) → CameSo done → Said h (check_status done) (check_line done) before after result → (told : FileMap) → Tells g old told → (it : Outcome) → ProgramComesTo told c.name it → Answers (status_of it) result
     answers_at (Ok text) s said told t it i = as_status 0 (status_of it) text (s.1 told t it i) said
-    answers_at (Err (Refused fault)) s said told t it i = as_status (status_of (outcome_of fault)) (status_of it) (outcome_line (outcome_of fault)) ((s.0 told t).only it i) said
-    answers_at (Err (Stopped fault)) s said told t it i = absurd s
+    answers_at (Err (Refused fault)) s said told t it i = as_status (status_of (outcome_of fault)) (status_of it) (outcome_line (outcome_of fault)) ((s.0.0 told t).only it i) said
+    answers_at (Err (Stopped fault)) s said told t it i = absurd s.0
     answers_at (Err (Failed (file.Device x))) s said told t it i = failed (status_of it) 8 device_line said (inl refl)
     answers_at (Err (Failed file.Memory)) s said told t it i = failed (status_of it) 10 memory_line said (inr refl)
 
@@ -182,6 +193,10 @@ module _ {F D O : Type 0} (g : Files F) (d : Disks D) (h : Sink O) (words : List
   checked (inl c) program a e = subst (λ (name : List ℕ). (line : List ℕ) × IsChecked g name old line × Gained line) (checked_once words c.0.name program c.0.ask a) (check_verdicts c.0 c.1 e)
   checked (inr c) program a e = absurd (not_other c program a)
 
+  pub check_status_is : CameAny → (program : List ℕ) → AskToCheck words program → IsCheckStatus result
+  check_status_is (inl c) program a = check_sort c.0 c.1
+  check_status_is (inr c) program a = absurd (not_other c program a)
+
   pub check_keeps : CameAny → (program : List ℕ) → AskToCheck words program → (g.told new ≡ g.told old) × (holds ≡ held)
   check_keeps (inl c) program a = (c.0.kept, c.1)
   check_keeps (inr c) program a = absurd (not_other c program a)
@@ -191,7 +206,7 @@ module _ {F D O : Type 0} (g : Files F) (d : Disks D) (h : Sink O) (words : List
   check_answered (inr c) told t program it a i = absurd (not_other c program a)
 
   pub usage : CameAny → result ≡ 1 → IsUsage words × Gained usage_line
-  usage (inl c) r = absurd (check_is_not c.0 c.1 1 (inl refl) r)
+  usage (inl c) r = absurd ((check_is_not c.0 c.1).0 r)
   usage (inr c) r = law.usage g d h words old new held holds before after result c r
 
   pub refused : CameAny → IsRefusal result → (it : Outcome) × (status_of it ≡ result) × InputIs g words old it × Gained (outcome_line it)
@@ -207,11 +222,11 @@ module _ {F D O : Type 0} (g : Files F) (d : Disks D) (h : Sink O) (words : List
   no_calls (inr c) r = law.no_calls g d h words old new held holds before after result c r
 
   pub task_failed : CameAny → result ≡ 6 → (asked : Asked) × AskFor words asked × (line : List ℕ) × IsTaskFailed g d asked old held holds line × Gained line
-  task_failed (inl c) r = absurd (check_is_not c.0 c.1 6 (inr refl) r)
+  task_failed (inl c) r = absurd ((check_is_not c.0 c.1).1 r)
   task_failed (inr c) r = law.task_failed g d h words old new held holds before after result c r
 
   pub not_built_yet : CameAny → result ≡ 12 → ((holds ≡ held) × InputIs g words old not_built × Gained not_built_line) ⊎ ((asked : Asked) × AskFor words asked × (line : List ℕ) × IsMissed g d asked old held holds line × Gained line)
-  not_built_yet (inl c) r = check_not_built c.0 c.1 r
+  not_built_yet (inl c) r = absurd ((check_is_not c.0 c.1).2 r)
   not_built_yet (inr c) r = law.not_built_yet g d h words old new held holds before after result c r
 
   pub kept : CameAny → (result ≡ 1) ⊎ (result ≡ 6) ⊎ (result ≡ 12) ⊎ IsRefusal result → g.told new ≡ g.told old

@@ -41,6 +41,10 @@ IsRefusal n = (n ≡ 2) ⊎ (n ≡ 3) ⊎ (n ≡ 4) ⊎ (n ≡ 11)
 abbrev pub IsStatus : ℕ → Type 0
 IsStatus n = (n ≡ 0) ⊎ (n ≡ 1) ⊎ (n ≡ 6) ⊎ (n ≡ 8) ⊎ (n ≡ 10) ⊎ (n ≡ 12) ⊎ IsRefusal n
 
+-- those of `check`
+abbrev pub IsCheckStatus : ℕ → Type 0
+IsCheckStatus n = (n ≡ 0) ⊎ (n ≡ 2) ⊎ (n ≡ 8) ⊎ (n ≡ 10) ⊎ (n ≡ 11)
+
 -- a call on disks was failed by a device
 abbrev pub DisksFailed : {D : Type 0} → Disks D → D → D → Type 0
 DisksFailed d old new = Rose (d.faults old) (d.faults new)

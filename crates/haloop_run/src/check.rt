@@ -3,7 +3,7 @@ ghost use Rattle.hal_outside.specs.Calls.{CountsStay, OnlyReads};
 ghost use Rattle.haloop_run.specs.Statuses.{IsChecked};
 ghost use Rattle.haloop_run.specs.Words.{AskToCheck};
 ghost use Rattle.haloop_run.specs.steps.Checks.{Checked, OnlyAccepted, ProgramJudged};
-ghost use Rattle.haloop_run.specs.steps.Inputs.{Stops};
+ghost use Rattle.haloop_run.specs.steps.Inputs.{IsOfProgram, Stops};
 
 use crate::fault::CommandFault;
 use crate::input::program_file;
@@ -35,6 +35,7 @@ fn verdicts_of<F: Files>(alloc: Global, name: &str, files: &mut F) -> Result<Vec
     ensures found { IfOk result (λ text. IsChecked F.Files name.now files.old text.items) }
     ensures only { IfOk result (λ _. OnlyAccepted F.Files name.now files.old) }
     ensures stops { IfErr result (Stops F.Files files.old files.new (ProgramJudged name.now)) }
+    ensures sort { IfErr result IsOfProgram }
 {
     let program = program_file(alloc, name, files)?;
     let verdicts = conditions(alloc, &program)?;

@@ -8,7 +8,7 @@ ghost use Rattle.run_laws.specs.WithoutLoss as without_loss;
 ghost use Rattle.run_laws.specs.WithoutLoss.{AreQuiet};
 ghost use Rattle.haloop_run.specs.declared.fault.InputFault.TheVariants as fault;
 ghost use Rattle.haloop_run.specs.Inputs.{complete, HasSchedule, HasScheduleAt, HasTable, HaveTables, tables_of};
-ghost use Rattle.haloop_run.specs.steps.Inputs.{AsAsked, CanRun, HasFile, IsProgramOf, Judged, listing, NoFile, NoProgram, NoSchedule, NoTable, OtherSchedule, Stops, StopsAtTable};
+ghost use Rattle.haloop_run.specs.steps.Inputs.{AsAsked, CanRun, HasFile, IsOfProgram, IsProgramOf, Judged, listing, NoFile, NoProgram, NoSchedule, NoTable, OtherSchedule, Stops, StopsAtTable};
 ghost use Rattle.haloop_run.specs.steps.Runs.{AreFew};
 ghost use Rattle.haloop_run.specs.steps.Words.{asked_by};
 
@@ -62,6 +62,7 @@ pub(crate) fn program_file<F: Files>(
     ensures reads { OnlyReads F.Files files.old files.new }
     ensures found { IfOk result (λ program. (told : FileMap) → Tells F.Files files.old told → IsProgramOf name.now program told) }
     ensures stops { IfErr result (Stops F.Files files.old files.new (NoProgram name.now)) }
+    ensures sort { IfErr result IsOfProgram }
 {
     let text = read_file(alloc, name, files)?;
     Ok(read_program(alloc, text.as_slice())?)
@@ -178,6 +179,7 @@ fn read_file<F: Files>(alloc: Global, name: &str, files: &mut F) -> Result<Vec<u
     ensures reads { OnlyReads F.Files files.old files.new }
     ensures found { IfOk result (λ bytes. (told : FileMap) → Tells F.Files files.old told → HasFile name.now bytes.items told) }
     ensures stops { IfErr result (Stops F.Files files.old files.new (NoFile name.now)) }
+    ensures sort { IfErr result IsOfProgram }
 {
     match files.read(alloc, name)? {
         Some(bytes) => Ok(bytes),

@@ -7,7 +7,7 @@ ghost use Rattle.haloop_run.specs.Inputs as input;
 ghost use Rattle.haloop_run.specs.Lines as lines;
 ghost use Rattle.haloop_run.specs.Lines.{outcome_line, status_of};
 ghost use Rattle.haloop_run.specs.Outputs.{Leaves};
-ghost use Rattle.haloop_run.specs.Statuses.{Answers, AnswersTo, AreTrue, BeganRun, DiskCountsStay, DisksFailed, GainsDue, InputIs, IsChecked, IsDone, IsMissed, IsRefusal, IsStatus, IsTaskFailed, LeavesSome, TellsEnd};
+ghost use Rattle.haloop_run.specs.Statuses.{Answers, AnswersTo, AreTrue, BeganRun, DiskCountsStay, DisksFailed, GainsDue, InputIs, IsCheckStatus, IsChecked, IsDone, IsMissed, IsRefusal, IsStatus, IsTaskFailed, LeavesSome, TellsEnd};
 ghost use Rattle.haloop_run.specs.Words.{Asked, AskFor, AskToCheck, IsUsage, texts};
 ghost use Rattle.haloop_run.specs.steps.Checks.{CheckedOr};
 ghost use Rattle.haloop_run.specs.steps.Commands.{NoCommand, Performed, Said, done_line, done_status, failed_line, failed_status, fault_line_of, fault_status_of};
@@ -48,6 +48,7 @@ pub fn haloop_top<F: Files, D: Disks, O: Sink>(
 
     // 0 of `check`: the sink gained the text of the verdicts on the program. At no status is a file changed, or a call made on disks.
     ensures checked { (program : List ℕ) → AskToCheck (texts words.now) program → result ≡ 0 → (line : List ℕ) × IsChecked F.Files program files.old line × Gains O.Sink out.old line out.new }
+    ensures check_status { (program : List ℕ) → AskToCheck (texts words.now) program → IsCheckStatus result }
     ensures check_keeps { (program : List ℕ) → AskToCheck (texts words.now) program → (F.told files.new ≡ F.told files.old) × (disks.new ≡ disks.old) }
 
     // 1, and 2, 3, 4 and 11: the words, or what the input comes to, and its line. No file is changed, and no call is made on disks.

@@ -11,7 +11,7 @@ use Rattle.haloop_run.specs.Inputs.{Outcome, ProgramComesTo}
 use Rattle.haloop_run.specs.Lines.{status_of}
 use Rattle.haloop_run.specs.Statuses.{IsChecked}
 use Rattle.haloop_run.specs.steps.Commands.{Said, fault_line_of, fault_status_of}
-use Rattle.haloop_run.specs.steps.Inputs.{Stops}
+use Rattle.haloop_run.specs.steps.Inputs.{IsOfProgram, Stops}
 
 -- the program comes to this, and to nothing with another status
 pub record ProgramJudged (name : List ℕ) (files : FileMap) (it : Outcome) : Type 0 where
@@ -25,7 +25,7 @@ OnlyAccepted g name files = (told : FileMap) → Tells g files told → (it : Ou
 -- what `check` came to: the text of the verdicts, or why there is none
 abbrev pub CheckCameTo : {F : Type 0} → Files F → List ℕ → F → F → Result (List ℕ) CommandFault → Type 0
 CheckCameTo g name old new (Ok text) = IsChecked g name old text × OnlyAccepted g name old
-CheckCameTo g name old new (Err fault) = Stops g old new (ProgramJudged name) fault
+CheckCameTo g name old new (Err fault) = Stops g old new (ProgramJudged name) fault × IsOfProgram fault
 
 -- its status
 abbrev pub check_status : Result (List ℕ) CommandFault → ℕ

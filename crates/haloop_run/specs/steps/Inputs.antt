@@ -65,6 +65,16 @@ Stops g old new P (Refused fault) = ((told : FileMap) → Tells g old told → P
 Stops g old new P (Stopped fault) = ⊥
 Stops g old new P (Failed fault) = AtFileDevice fault (FaultsRose g old new)
 
+-- a fault of a program's file: it is absent, or its text is refused, or a call failed
+abbrev pub IsOfProgram : CommandFault → Type 0
+IsOfProgram (Refused (Absent name)) = Unit {0}
+IsOfProgram (Refused (BadProgram line what)) = Unit {0}
+IsOfProgram (Refused (BadSchedule line what)) = ⊥
+IsOfProgram (Refused NotBuilt) = ⊥
+IsOfProgram (Refused (BadTable name what)) = ⊥
+IsOfProgram (Stopped fault) = ⊥
+IsOfProgram (Failed fault) = Unit {0}
+
 -- ---- what the steps find
 
 -- the table of this name, this file and this schema

@@ -16,7 +16,7 @@ returns-in-Err-clause-checked g c = λ words ask. record {
   name = c.args.name.now;
   ask = ask;
   done = Err c.in-Err.fault;
-  came = c.in-Err.ensures.stops;
+  came = (c.in-Err.ensures.stops, c.in-Err.ensures.sort);
   kept = c.verdicts_of.ensures.reads.1;
   said = c.say_fault.ensures.said;
 }

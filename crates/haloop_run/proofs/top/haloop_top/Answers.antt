@@ -13,6 +13,9 @@ returns-clause-done g c = law.done _ _ _ _ _ _ _ _ _ _ _ c.perform.ensures.perfo
 pub returns-clause-checked : goal.returns-clause-checked
 returns-clause-checked g c = law.checked _ _ _ _ _ _ _ _ _ _ _ c.perform.ensures.performed
 
+pub returns-clause-check_status : goal.returns-clause-check_status
+returns-clause-check_status g c = law.check_status_is _ _ _ _ _ _ _ _ _ _ _ c.perform.ensures.performed
+
 pub returns-clause-check_keeps : goal.returns-clause-check_keeps
 returns-clause-check_keeps g c = law.check_keeps _ _ _ _ _ _ _ _ _ _ _ c.perform.ensures.performed
 
